@@ -1,0 +1,8 @@
+// What a step asks of a station. The only place that fixes how wide an activity's number and its parameter are.
+
+// An activity of a station, by its number, with the parameter that it is asked with.
+#[derive(Clone, Copy, PartialEq, Eq, Debug)]
+pub struct Activity {
+    pub number: u8,
+    pub parameter: u16,
+}
