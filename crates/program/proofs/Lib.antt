@@ -1,0 +1,10 @@
+mod Trees
+mod Walks
+mod ReadBack
+mod Limits
+mod Counts
+mod Places
+mod Parts
+mod Cursors
+mod Unique
+mod WorkedTexts

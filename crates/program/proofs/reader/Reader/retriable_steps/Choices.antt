@@ -1,0 +1,11 @@
+use Prim.Native.Nat.{_-_, _≤_}
+use mathlib.Core.Path.{_≡_}
+use lib.ListN.{length}
+use Rattle.program.specs.Reads.{text-of, Moved, RowNext}
+use Rattle.program.proofs.reader.Reader.retriable_steps.Given as given
+
+abbrev pub Inv-loop-self : given.InvT-loop-self
+Inv-loop-self l = Moved (l .entry .self) (l .self) × RowNext (l .self) (l .depth)
+
+abbrev pub μ-loop-self : given.MeasureT-loop-self
+μ-loop-self l = length (text-of (l .self)) - l .self .at

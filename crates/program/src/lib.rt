@@ -1,0 +1,34 @@
+// Program texts: reading them, and going through the programs that reading gives. Nothing here allocates.
+mod check;
+mod command;
+mod cursor;
+mod positions;
+mod program;
+mod reader;
+mod reading;
+mod refusal;
+mod worked;
+
+pub use check::program_text_check;
+pub use command::Command;
+pub use command::CommandDebug;
+pub use command::CommandPartialEq;
+pub use command::Kind;
+pub use command::KindDebug;
+pub use command::KindPartialEq;
+pub use command::Step;
+pub use command::StepDebug;
+pub use command::StepPartialEq;
+pub use cursor::Cursor;
+pub use positions::programs_spell_their_trees;
+pub use program::Program;
+pub use reader::parse;
+pub use reading::Reading;
+pub use reading::read;
+pub use refusal::Fault;
+pub use refusal::FaultDebug;
+pub use refusal::FaultPartialEq;
+pub use refusal::Refusal;
+pub use refusal::RefusalDebug;
+pub use refusal::RefusalPartialEq;
+pub use worked::worked_texts;

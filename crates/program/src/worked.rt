@@ -1,0 +1,9 @@
+// Texts worked through by hand.
+ghost use Rattle.program.specs.Worked.{Worked-texts};
+
+// `.` is read; the empty text, a bracket that is not closed and an alternative that ends in `]` are refused, each at its place.
+pub fn worked_texts() -> u8
+    ensures { λ _. ⌜ Worked-texts ⌝ }
+{
+    0
+}
