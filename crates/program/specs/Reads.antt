@@ -76,6 +76,11 @@ pub record MarkNext (r : Reader) (m : Command) : Type 0 where
   pub low : r .at < length (text-of r) → byte-at r ≡ mark m → open-after (opened 0 (commands-of r)) m ≤ 4
   pub only : r .at < length (text-of r) → Only r m
 
+-- only the mark m can stand at the place, and it does not
+pub record OtherThan (r : Reader) (m : Command) : Type 0 where
+  pub next : MarkNext r m
+  pub other : r .at < length (text-of r) → byte-at r ≡ mark m → ⊥
+
 -- the mark m was read
 pub record Passed (r r′ : Reader) (m : Command) : Type 0 where
   pub stands : context r′ ≡ go (context r) m

@@ -4,8 +4,8 @@ ghost use mathlib.Core.Path.{_≡_};
 ghost use Rattle.program.specs.declared.command.Command.the-variants.{Open, Close};
 ghost use Rattle.program.specs.Contexts.{at-pivot, at-choice, closed, end-mark, after-end};
 ghost use Rattle.program.specs.Outcome.{Parsed};
-ghost use Rattle.program.specs.Refusals.{Within};
-ghost use Rattle.program.specs.Reads.{commands-of, context, Sound, Peeked, Spelled, Pushed, StepNext, Operands, MarkNext, Passed, Ready, BodyNext, RowNext, Reads, RowRead};
+ghost use Rattle.program.specs.Refusals.{Within, Refused};
+ghost use Rattle.program.specs.Reads.{text-of, commands-of, context, Sound, Peeked, Spelled, Pushed, StepNext, Operands, MarkNext, OtherThan, Passed, Ready, BodyNext, RowNext, Reads, RowRead};
 use activity::Activity;
 use crate::Command;
 use crate::Fault;
@@ -21,12 +21,16 @@ const MAX_DEPTH: usize = 4;
 // How many bytes a step takes: its letter, one byte of activity and two of parameter.
 const STEP_BYTES: usize = 4;
 
+// A table with nothing in it yet.
+pub(crate) const BLANK: [Command; MAX_BYTES] = [Command::Stop; MAX_BYTES];
+
 // A text, the place of the next byte, and what was read up to there.
+// The counters stand apart: side by side, the compiler adds to two of them at once, and then waits where one was written alone.
 #[derive(Drop)]
 struct Reader<'a> {
+    steps: usize,
     text: &'a [u8],
     at: usize,
-    steps: usize,
     commands: [Command; MAX_BYTES],
     len: usize,
 }
@@ -85,6 +89,22 @@ impl Reader<'_> {
         })
     }
 
+    // The refusal where only the mark m can stand, and it does not.
+    fn unexpected(&self) -> Refusal
+        requires sound { ⌜ Sound (now self) ⌝ }
+        requires other { ⌜ ((m : Command) × OtherThan (now self) m) ⌝ }
+        ensures { λ r. ⌜ Refused (text-of (now (self .entry))) (r .fault) (r .place) ⌝ }
+    {
+        let fault = match self.peek() {
+            None => Fault::CutOff,
+            Some(_) => Fault::Misplaced,
+        };
+        Refusal {
+            fault,
+            place: self.at,
+        }
+    }
+
     // The mark m, which is all that can stand at the place.
     fn expect(&mut self, m: Command) -> Result<(), Refusal>
         requires sound { ⌜ Sound (now self) ⌝ }
@@ -92,18 +112,11 @@ impl Reader<'_> {
         ensures { λ r. ⌜ Reads (now (self .entry)) (now (self .exit)) (Passed (now (self .entry)) (now (self .exit)) m) r ⌝ }
     {
         match self.peek() {
-            None => Err(Refusal {
-                fault: Fault::CutOff,
-                place: self.at,
-            }),
             Some(b) if b == m.letter() => {
                 self.push(m);
                 Ok(())
             }
-            Some(_) => Err(Refusal {
-                fault: Fault::Misplaced,
-                place: self.at,
-            }),
+            _ => Err(self.unexpected()),
         }
     }
 
@@ -196,10 +209,10 @@ pub fn parse(text: &[u8]) -> Result<Program, Refusal>
         });
     }
     let mut reader = Reader {
+        steps: 0,
         text,
         at: 0,
-        steps: 0,
-        commands: [Command::Stop; MAX_BYTES],
+        commands: BLANK,
         len: 0,
     };
     reader.body(0)?;

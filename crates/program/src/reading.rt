@@ -6,11 +6,10 @@ ghost use Rattle.program.specs.declared.command.Command.the-variants.{Stop};
 ghost use Rattle.program.specs.Grammar.{Body, Yields};
 ghost use Rattle.program.specs.Places.{program-commands, tree};
 ghost use Rattle.program.specs.Outcome.{Outcome, Same, number-told, place-told};
-use crate::Command;
 use crate::Program;
 use crate::Refusal;
+use crate::reader::BLANK;
 use crate::reader::parse;
-use crate::reader::MAX_BYTES;
 
 // The program of the text; where the text is refused, the program of `.`, with the refusal.
 #[derive(Clone, Copy)]
@@ -46,7 +45,7 @@ fn stop() -> Program
     ensures { λ r. ⌜ program-commands r ≡ Stop ∷ [] ⌝ }
 {
     Program {
-        commands: [Command::Stop; MAX_BYTES],
+        commands: BLANK,
         len: 1,
     }
 }

@@ -1,12 +1,13 @@
 use mathlib.Core.Path.{_≡_, refl, sym, ap, _∙_}
 use Prim.Native.Nat.{ℕ}
 use native.Mathlib.Omega.{arith}
+use borrow.Author.Needs.{needs}
 use Rattle.program.specs.Grammar.{mark}
-use Rattle.program.specs.Contexts.{go}
 use Rattle.program.specs.Reads.{byte-at}
-use Rattle.program.proofs.Places.{somewhere, none-left, misplaced, width}
+use Rattle.program.proofs.Places.{width}
 use Rattle.program.proofs.Parts.{mark-fits, pushed-context}
 use Rattle.program.proofs.reader.Reader.expect.Needs as need
+use Rattle.program.proofs.reader.Reader.expect.Needs.{in-rest·by·in-Some·else-b-letter, in-rest·by·in-None·}
 
 pub push-requires : need.push-requires
 push-requires c κs =
@@ -14,9 +15,20 @@ push-requires c κs =
     let fit = mark-fits (c .args .self .now) (c .pre .sound) (c .args .m) (c .pre .next) (told .0) (sym (told .1) ∙ c .if-b-letter .taken ∙ c .letter .ensures) in
     record { sound = c .pre .sound; here = fit .0; within = fit .1 }
 
-pub returns-in-None : need.returns-in-None
-returns-in-None c =
-    none-left (c .args .self .now) (c .pre .sound) (somewhere _ (c .args .m) (c .pre .next .leads)) (c .in-None .ensures tt) (λ e. c .pre .next .leads (ap (λ st. go st (c .args .m)) e))
+pub unexpected-requires : need.unexpected-requires
+unexpected-requires c κs = record {
+  sound = c .pre .sound;
+  other = (
+    c .args .m,
+    record {
+      next = c .pre .next;
+      other = λ here is. elim (c .in-rest .came) [
+        | in-rest·by·in-Some·else-b-letter w ↦ w .if-b-letter .left (w .in-Some .ensures tt .1 ∙ is ∙ sym (w .letter .ensures))
+        | in-rest·by·in-None· w ↦ search needs
+      ];
+    },
+  );
+}
 
 pub returns-in-Some : need.returns-in-Some
 returns-in-Some c =
@@ -24,9 +36,3 @@ returns-in-Some c =
       record { sound = p .sound; same = p .same; forward = omega (arith, p .place) },
       record { stands = pushed-context _ _ _ p; further = omega (arith, p .place, width (c .args .m)) },
     )
-
-pub returns-in-Some-2 : need.returns-in-Some-2
-returns-in-Some-2 c =
-    let told = c .in-Some .ensures tt in
-    misplaced (c .args .self .now) (c .pre .sound) (somewhere _ (c .args .m) (c .pre .next .leads)) (told .0) (λ e. c .pre .next .leads (ap (λ st. go st (c .args .m)) e))
-    (λ k m. c .pre .next .only (told .0) k m (λ e. c .if-b-letter .left (told .1 ∙ e ∙ sym (c .letter .ensures))))
