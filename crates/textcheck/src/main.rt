@@ -1,0 +1,32 @@
+// textcheck: reads program texts in the written notation, one to a line, and says of each what it is:
+// the program as a tree, or the refusal with its number, its place and why.
+mod help;
+mod lines;
+mod tree;
+
+use std::env;
+use std::error::AnyError;
+use std::io::BufRead;
+use std::io::BufReader;
+
+fn run(rt: &LibcRuntime) -> Result<(), AnyError> {
+    let mut args = env::args(rt)?;
+    let _program = args.next();
+    if let Some(word) = args.next() {
+        if word.as_str() != "--help" {
+            println!(rt, "textcheck takes no argument but --help, and this is not it: {word}")?;
+        }
+        help::show(rt)?;
+        return Ok(());
+    }
+    let mut number = 0usize;
+    for line in BufReader::new(rt.stdin()).lines(rt.alloc()) {
+        number = number.saturating_add(1);
+        lines::show(rt, number, line?.as_str())?;
+    }
+    Ok(())
+}
+
+fn main(rt: LibcRuntime) -> Result<(), AnyError> {
+    rt.report(run(&rt))
+}
