@@ -1,7 +1,8 @@
 // The reader of program texts.
 ghost use mathlib.Core.List.{[], _∷_, _++_};
 ghost use mathlib.Core.Path.{_≡_};
-ghost use Rattle.program.specs.declared.command.Command.the-variants.{Open, Close};
+ghost use lib.ListN.{replicate};
+ghost use Rattle.program.specs.declared.command.Command.the-variants.{Open, Close, Stop};
 ghost use Rattle.program.specs.Contexts.{at-pivot, at-choice, closed, end-mark, after-end};
 ghost use Rattle.program.specs.Outcome.{Parsed};
 ghost use Rattle.program.specs.Refusals.{Within, Refused};
@@ -21,8 +22,14 @@ const MAX_DEPTH: usize = 4;
 // How many bytes a step takes: its letter, one byte of activity and two of parameter.
 const STEP_BYTES: usize = 4;
 
-// A table with nothing in it yet.
-pub(crate) const BLANK: [Command; MAX_BYTES] = [Command::Stop; MAX_BYTES];
+static BLANK: [Command; MAX_BYTES] = [Command::Stop; MAX_BYTES];
+
+// A table with nothing in it yet: lent, since it is faster to copy it as a whole than to write it entry by entry.
+pub(crate) fn blank() -> &'static [Command; MAX_BYTES]
+    ensures { λ r. ⌜ now r ≡ replicate 255 Stop ⌝ }
+{
+    &BLANK
+}
 
 // A text, the place of the next byte, and what was read up to there.
 // The counters stand apart: side by side, the compiler adds to two of them at once, and then waits where one was written alone.
@@ -212,7 +219,7 @@ pub fn parse(text: &[u8]) -> Result<Program, Refusal>
         steps: 0,
         text,
         at: 0,
-        commands: BLANK,
+        commands: *blank(),
         len: 0,
     };
     reader.body(0)?;

@@ -8,7 +8,7 @@ ghost use Rattle.program.specs.Places.{program-commands, tree};
 ghost use Rattle.program.specs.Outcome.{Outcome, Same, number-told, place-told};
 use crate::Program;
 use crate::Refusal;
-use crate::reader::BLANK;
+use crate::reader::blank;
 use crate::reader::parse;
 
 // The program of the text; where the text is refused, the program of `.`, with the refusal.
@@ -45,7 +45,7 @@ fn stop() -> Program
     ensures { λ r. ⌜ program-commands r ≡ Stop ∷ [] ⌝ }
 {
     Program {
-        commands: BLANK,
+        commands: *blank(),
         len: 1,
     }
 }
