@@ -11,15 +11,15 @@ use Rattle.activity.specs.declared.Activity.{Activity}
 use Rattle.station.specs.declared.pair.Half.{Half}
 use Rattle.station.specs.declared.pair.Half.the-variants.{First, Second, Neither}
 use Rattle.station.specs.Meaning.{Meaning, Restores, Commutes, Symmetric, AlwaysPossible, Bounded}
-use Rattle.station.specs.Pair.{Both, half, numbered, with-one, with-two, performed-in, taken-back-in, compensatable-in, retriable-in, conflict-in, paired}
+use Rattle.station.specs.Pair.{Both, half, numbered, with-first, with-second, performed-in, taken-back-in, compensatable-in, retriable-in, conflict-in, paired}
 use Rattle.station.proofs.Part.{Part, Apart, inside, back, swap-over, swap-apart, lifted-possible}
 
 module _ {A B : Type 0} where
   abbrev left : Part (Both A B) A
-  left = record { get = λ w. w .one; put = with-one; get-put = λ w s. refl; put-get = λ w. refl; put-put = λ w s t. refl }
+  left = record { get = λ w. w .first; put = with-first; get-put = λ w s. refl; put-get = λ w. refl; put-put = λ w s t. refl }
 
   abbrev right : Part (Both A B) B
-  right = record { get = λ w. w .two; put = with-two; get-put = λ w s. refl; put-get = λ w. refl; put-put = λ w s t. refl }
+  right = record { get = λ w. w .second; put = with-second; get-put = λ w s. refl; put-get = λ w. refl; put-put = λ w s t. refl }
 
   abbrev left-right : Apart left right
   left-right = record { first-kept = λ w r. refl; second-kept = λ w s. refl; either-order = λ w s r. refl }
@@ -37,10 +37,10 @@ module _ {A B : Type 0} (m : Meaning A) (n : Meaning B) where
   restores-in : Restores m → Restores n → (h : Half) (s t : Both A B) (a : Activity) (x : ℕ) → compensatable-in m n h ≡ true → performed-in m n h s a ≡ Some (x, t) → taken-back-in m n h t a x ≡ s
   restores-in l r (First k) s t a x c e =
       let i = inside left (λ z. m .performed z (numbered k a)) s t x e in
-      ap (with-one t) (l (s .one) (t .one) (numbered k a) x c (i .0)) ∙ back left s t (i .1)
+      ap (with-first t) (l (s .first) (t .first) (numbered k a) x c (i .0)) ∙ back left s t (i .1)
   restores-in l r (Second k) s t a x c e =
       let i = inside right (λ z. n .performed z (numbered k a)) s t x e in
-      ap (with-two t) (r (s .two) (t .two) (numbered k a) x c (i .0)) ∙ back right s t (i .1)
+      ap (with-second t) (r (s .second) (t .second) (numbered k a) x c (i .0)) ∙ back right s t (i .1)
   restores-in l r Neither s t a x c e = cc
 
   pub restores : Restores m → Restores n → Restores (paired m n)
@@ -48,14 +48,14 @@ module _ {A B : Type 0} (m : Meaning A) (n : Meaning B) where
 
   commutes-in : Commutes m → Commutes n → (h k : Half) (s t u : Both A B) (a b : Activity) (x y : ℕ) → conflict-in m n h k ≡ false → performed-in m n h s a ≡ Some (x, t) → performed-in m n k t b ≡ Some (y, u) → (v : Both A B) × (performed-in m n k s b ≡ Some (y, v)) × (performed-in m n h v a ≡ Some (x, u))
   commutes-in l r (First h) (First k) s t u a b x y c e f =
-      swap-over left (λ z. m .performed z (numbered h a)) (λ z. m .performed z (numbered k b)) s (λ t u x y. l (s .one) t u (numbered h a) (numbered k b) x y c) t u x y e f
+      swap-over left (λ z. m .performed z (numbered h a)) (λ z. m .performed z (numbered k b)) s (λ t u x y. l (s .first) t u (numbered h a) (numbered k b) x y c) t u x y e f
   commutes-in l r (First h) (Second k) s t u a b x y c e f =
       swap-apart left right left-right (λ z. m .performed z (numbered h a)) (λ z. n .performed z (numbered k b)) s t u x y e f
   commutes-in l r (First h) Neither s t u a b x y c e f = (s, cc, cc)
   commutes-in l r (Second h) (First k) s t u a b x y c e f =
       swap-apart right left right-left (λ z. n .performed z (numbered h a)) (λ z. m .performed z (numbered k b)) s t u x y e f
   commutes-in l r (Second h) (Second k) s t u a b x y c e f =
-      swap-over right (λ z. n .performed z (numbered h a)) (λ z. n .performed z (numbered k b)) s (λ t u x y. r (s .two) t u (numbered h a) (numbered k b) x y c) t u x y e f
+      swap-over right (λ z. n .performed z (numbered h a)) (λ z. n .performed z (numbered k b)) s (λ t u x y. r (s .second) t u (numbered h a) (numbered k b) x y c) t u x y e f
   commutes-in l r (Second h) Neither s t u a b x y c e f = (s, cc, cc)
   commutes-in l r Neither k s t u a b x y c e f = (s, cc, cc)
 
@@ -77,8 +77,8 @@ module _ {A B : Type 0} (m : Meaning A) (n : Meaning B) where
   symmetric l r h k = symmetric-in l r (half h) (half k)
 
   retries-in : AlwaysPossible m → AlwaysPossible n → (h : Half) (s : Both A B) (a : Activity) → retriable-in m n h ≡ true → isSome (performed-in m n h s a) ≡ true
-  retries-in l r (First k) s a c = lifted-possible (with-one s) _ (l (s .one) (numbered k a) c)
-  retries-in l r (Second k) s a c = lifted-possible (with-two s) _ (r (s .two) (numbered k a) c)
+  retries-in l r (First k) s a c = lifted-possible (with-first s) _ (l (s .first) (numbered k a) c)
+  retries-in l r (Second k) s a c = lifted-possible (with-second s) _ (r (s .second) (numbered k a) c)
   retries-in l r Neither s a c = c
 
   pub retries : AlwaysPossible m → AlwaysPossible n → AlwaysPossible (paired m n)

@@ -11,8 +11,8 @@ use Rattle.station.specs.Meaning.{Meaning, lifted}
 
 -- the state of a pair: one of each half
 pub record Both (A B : Type 0) : Type 0 where
-  pub one : A
-  pub two : B
+  pub first : A
+  pub second : B
 
 -- the half that a number belongs to, with its number there
 abbrev pub half : ℕ → Half
@@ -22,21 +22,21 @@ half n = cond (ltb n 32) (First n) (cond (ltb n 64) (Second (n - 32)) Neither)
 abbrev pub numbered : ℕ → Activity → Activity
 numbered n a = record { number = n; parameter = a .parameter }
 
-abbrev pub with-one : {A B : Type 0} → Both A B → A → Both A B
-with-one s t = record { one = t; two = s .two }
+abbrev pub with-first : {A B : Type 0} → Both A B → A → Both A B
+with-first s t = record { first = t; second = s .second }
 
-abbrev pub with-two : {A B : Type 0} → Both A B → B → Both A B
-with-two s t = record { one = s .one; two = t }
+abbrev pub with-second : {A B : Type 0} → Both A B → B → Both A B
+with-second s t = record { first = s .first; second = t }
 
 module _ {A B : Type 0} (m : Meaning A) (n : Meaning B) where
   abbrev pub performed-in : Half → Both A B → Activity → Option (ℕ × Both A B)
-  performed-in (First k) s a = lifted (with-one s) (m .performed (s .one) (numbered k a))
-  performed-in (Second k) s a = lifted (with-two s) (n .performed (s .two) (numbered k a))
+  performed-in (First k) s a = lifted (with-first s) (m .performed (s .first) (numbered k a))
+  performed-in (Second k) s a = lifted (with-second s) (n .performed (s .second) (numbered k a))
   performed-in Neither s a = None
 
   abbrev pub taken-back-in : Half → Both A B → Activity → ℕ → Both A B
-  taken-back-in (First k) s a x = with-one s (m .taken-back (s .one) (numbered k a) x)
-  taken-back-in (Second k) s a x = with-two s (n .taken-back (s .two) (numbered k a) x)
+  taken-back-in (First k) s a x = with-first s (m .taken-back (s .first) (numbered k a) x)
+  taken-back-in (Second k) s a x = with-second s (n .taken-back (s .second) (numbered k a) x)
   taken-back-in Neither s a x = s
 
   abbrev pub compensatable-in : Half → Bool

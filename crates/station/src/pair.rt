@@ -6,47 +6,45 @@ use activity::Activity;
 
 // How many numbers each half has.
 const HALF: u8 = 32;
+
 const WHOLE: u8 = 64;
 
 // Numbers from 0 to 31 belong to the first station, those from 32 to 63, less 32, to the second.
 #[derive(Drop)]
 pub struct Pair<A, B> {
-    left: A,
-    right: B,
+    first: A,
+    second: B,
 }
 
 impl<A, B> Pair<A, B> {
     pub fn new(first: A, second: B) -> Pair<A, B>
-        ensures first { λ r. ⌜ r .left ≡ first ⌝ }
-        ensures second { λ r. ⌜ r .right ≡ second ⌝ }
+        ensures first { λ r. ⌜ r .first ≡ first ⌝ }
+        ensures second { λ r. ⌜ r .second ≡ second ⌝ }
     {
-        Pair {
-            left: first,
-            right: second,
-        }
+        Pair { first, second }
     }
 
     // The first station, to look at.
     pub fn first(&self) -> &A
-        ensures { λ r. ⌜ now r ≡ now (self .entry) .left ⌝ }
+        ensures { λ r. ⌜ now r ≡ now (self .entry) .first ⌝ }
     {
-        &self.left
+        &self.first
     }
 
     // The second station, to look at.
     pub fn second(&self) -> &B
-        ensures { λ r. ⌜ now r ≡ now (self .entry) .right ⌝ }
+        ensures { λ r. ⌜ now r ≡ now (self .entry) .second ⌝ }
     {
-        &self.right
+        &self.second
     }
 
     // Both stations, given back.
     pub fn into_parts(self) -> (A, B)
-        ensures first { λ r. ⌜ r .0 ≡ self .left ⌝ }
-        ensures second { λ r. ⌜ r .1 ≡ self .right ⌝ }
+        ensures first { λ r. ⌜ r .0 ≡ self .first ⌝ }
+        ensures second { λ r. ⌜ r .1 ≡ self .second ⌝ }
     {
-        let Pair { left, right } = self;
-        (left, right)
+        let Pair { first, second } = self;
+        (first, second)
     }
 }
 
@@ -85,7 +83,7 @@ pub impl<A: Station, B: Station> Station for Pair<A, B> as PairStation {
 
     ghost State = { Both (A·Station .State) (B·Station .State) };
 
-    ghost view = { λ s. record { one = A·Station .view (s .left); two = B·Station .view (s .right) } };
+    ghost view = { λ s. record { first = A·Station .view (s .first); second = B·Station .view (s .second) } };
 
     ghost meaning = { paired (A·Station .meaning) (B·Station .meaning) };
 
@@ -95,40 +93,40 @@ pub impl<A: Station, B: Station> Station for Pair<A, B> as PairStation {
 
     fn perform(&mut self, activity: Activity) -> Option<u32> {
         match half_of(activity.number) {
-            Half::First(number) => self.left.perform(renamed(activity, number)),
-            Half::Second(number) => self.right.perform(renamed(activity, number)),
+            Half::First(number) => self.first.perform(renamed(activity, number)),
+            Half::Second(number) => self.second.perform(renamed(activity, number)),
             Half::Neither => None,
         }
     }
 
     fn take_back(&mut self, activity: Activity, answer: u32) {
         match half_of(activity.number) {
-            Half::First(number) => self.left.take_back(renamed(activity, number), answer),
-            Half::Second(number) => self.right.take_back(renamed(activity, number), answer),
+            Half::First(number) => self.first.take_back(renamed(activity, number), answer),
+            Half::Second(number) => self.second.take_back(renamed(activity, number), answer),
             Half::Neither => {}
         }
     }
 
     fn compensatable(&self, number: u8) -> bool {
         match half_of(number) {
-            Half::First(number) => self.left.compensatable(number),
-            Half::Second(number) => self.right.compensatable(number),
+            Half::First(number) => self.first.compensatable(number),
+            Half::Second(number) => self.second.compensatable(number),
             Half::Neither => false,
         }
     }
 
     fn retriable(&self, number: u8) -> bool {
         match half_of(number) {
-            Half::First(number) => self.left.retriable(number),
-            Half::Second(number) => self.right.retriable(number),
+            Half::First(number) => self.first.retriable(number),
+            Half::Second(number) => self.second.retriable(number),
             Half::Neither => false,
         }
     }
 
     fn conflict(&self, a: u8, b: u8) -> bool {
         match (half_of(a), half_of(b)) {
-            (Half::First(a), Half::First(b)) => self.left.conflict(a, b),
-            (Half::Second(a), Half::Second(b)) => self.right.conflict(a, b),
+            (Half::First(a), Half::First(b)) => self.first.conflict(a, b),
+            (Half::Second(a), Half::Second(b)) => self.second.conflict(a, b),
             _ => false,
         }
     }

@@ -7,23 +7,23 @@ use activity::Activity;
 // The station below, and the number that is added.
 #[derive(Drop)]
 pub struct Renumbering<S> {
-    station: S,
+    inner: S,
     offset: u16,
 }
 
 impl<S> Renumbering<S> {
-    pub fn new(station: S, offset: u16) -> Renumbering<S>
-        ensures below { λ r. ⌜ r .station ≡ station ⌝ }
-        ensures added { λ r. ⌜ r .offset ≡ offset ⌝ }
+    pub fn new(inner: S, offset: u16) -> Renumbering<S>
+        ensures inner { λ r. ⌜ r .inner ≡ inner ⌝ }
+        ensures offset { λ r. ⌜ r .offset ≡ offset ⌝ }
     {
-        Renumbering { station, offset }
+        Renumbering { inner, offset }
     }
 
     // The station below, to look at.
     pub fn inner(&self) -> &S
-        ensures { λ r. ⌜ now r ≡ now (self .entry) .station ⌝ }
+        ensures { λ r. ⌜ now r ≡ now (self .entry) .inner ⌝ }
     {
-        &self.station
+        &self.inner
     }
 
     // The number that is added.
@@ -35,10 +35,10 @@ impl<S> Renumbering<S> {
 
     // The station below, given back.
     pub fn into_inner(self) -> S
-        ensures { λ r. ⌜ r ≡ self .station ⌝ }
+        ensures { λ r. ⌜ r ≡ self .inner ⌝ }
     {
-        let Renumbering { station, offset: _ } = self;
-        station
+        let Renumbering { inner, offset: _ } = self;
+        inner
     }
 }
 
@@ -57,7 +57,7 @@ pub impl<S: Station> Station for Renumbering<S> as RenumberingStation {
 
     ghost State = { Renumbered (S·Station .State) };
 
-    ghost view = { λ s. record { below = S·Station .view (s .station); added = s .offset } };
+    ghost view = { λ s. record { inner = S·Station .view (s .inner); offset = s .offset } };
 
     ghost meaning = { renumbered (S·Station .meaning) };
 
@@ -67,23 +67,23 @@ pub impl<S: Station> Station for Renumbering<S> as RenumberingStation {
 
     fn perform(&mut self, activity: Activity) -> Option<u32> {
         let below = shifted(activity, self.offset);
-        self.station.perform(below)
+        self.inner.perform(below)
     }
 
     fn take_back(&mut self, activity: Activity, answer: u32) {
         let below = shifted(activity, self.offset);
-        self.station.take_back(below, answer)
+        self.inner.take_back(below, answer)
     }
 
     fn compensatable(&self, number: u8) -> bool {
-        self.station.compensatable(number)
+        self.inner.compensatable(number)
     }
 
     fn retriable(&self, number: u8) -> bool {
-        self.station.retriable(number)
+        self.inner.retriable(number)
     }
 
     fn conflict(&self, a: u8, b: u8) -> bool {
-        self.station.conflict(a, b)
+        self.inner.conflict(a, b)
     }
 }
