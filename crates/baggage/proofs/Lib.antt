@@ -1,0 +1,4 @@
+pub mod Tables
+pub mod Swaps
+pub mod RowLaws
+pub mod LaneLaws
