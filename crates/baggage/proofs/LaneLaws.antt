@@ -22,11 +22,10 @@ use Rattle.baggage.specs.declared.lanes.Lane.{Lane}
 use Rattle.baggage.specs.declared.lanes.Lanes.{Lanes}
 use Rattle.baggage.specs.declared.lanes.LaneActivity.{LaneActivity}
 use Rattle.baggage.specs.declared.lanes.LaneActivity.the-variants.{Take, Give, Count, Send, Flag}
-use Rattle.baggage.specs.declared.catalogue.Catalogue.{Catalogue}
-use Rattle.baggage.specs.Tabled.{matched}
+use Rattle.baggage.specs.Tabled.{matched, proper}
 use Rattle.baggage.specs.Lanes.{within, counted, raised, lowered, with-count, recounted, flagged, on-lane, off-lane, names, empty-lane, first-lanes, lane-of, with-lane, lanes-listing, lanes-row, lanes-meaning}
 use Rattle.baggage.proofs.Swaps as swaps
-use Rattle.baggage.proofs.Tables.{Rule, every, at}
+use Rattle.baggage.proofs.Tables.{every, at}
 use Rattle.baggage.proofs.RowLaws as row
 
 -- ---- the sixteen lanes: equal where what they hold is
@@ -194,11 +193,15 @@ flag-ready = ((λ p l. refl), refl)
 pub retries : AlwaysPossible lanes-meaning
 retries = row.retries lanes-row (count-ready, (flag-ready, tt))
 
-pub symmetric : (t : Catalogue) → Rule t lanes-listing → Symmetric lanes-meaning
-symmetric t rule = row.symmetric lanes-row t rule
+lanes-proper : proper lanes-listing ≡ true
+unfolding proper
+lanes-proper = refl
 
-pub bounded : (t : Catalogue) → Rule t lanes-listing → Bounded lanes-meaning
-bounded t rule = row.bounded lanes-row t rule refl
+pub symmetric : Symmetric lanes-meaning
+symmetric = row.symmetric lanes-row lanes-proper
+
+pub bounded : Bounded lanes-meaning
+bounded = row.bounded lanes-row lanes-proper refl
 
 -- ---- the lanes at first
 abbrev unused : 0 ≤ 200 → Lane

@@ -14,10 +14,10 @@ use Rattle.std.specs.shelf.Lists.{All}
 use Rattle.std.proofs.shelf.Tests.{ltb-true, cases-eq}
 use Rattle.station.specs.Meaning.{Meaning, Restores, Commutes, Symmetric, AlwaysPossible, Bounded, lifted}
 use Rattle.station.proofs.Part.{parts, outcome, Part, Apart, Swap, over, inside, back, swap-over, swap-apart, lifted-possible}
-use Rattle.baggage.specs.declared.catalogue.Catalogue.{Catalogue}
-use Rattle.baggage.specs.Tabled.{listed, matched}
+use Rattle.baggage.specs.Tabled.{listed, matched, proper}
 use Rattle.baggage.specs.Row.{Row, entry, performed-at, taken-back-at, in-row}
-use Rattle.baggage.proofs.Tables.{Rule, of-listed}
+use Rattle.baggage.proofs.Tables.{of-listed}
+use Rattle.baggage.proofs.Tables as tables
 
 -- possible or not, with no effect
 abbrev still : {W : Type 0} → Bool → W → Option (ℕ × W)
@@ -124,10 +124,10 @@ module _ {W C K : Type 0} (r : Row W C K) where
   retries law s a c =
       retries-at (entry (r .names) (a .number)) (of-listed (Named Ready) (r .listing .retriables) law (a .number) c) (a .parameter) s (ltb (r .place (a .parameter)) (r .cells))
 
-  -- the table's rule gives the rest
-  module _ (t : Catalogue) (rule : Rule t (r .listing)) where
+  -- the listing's test gives the rest
+  module _ (passes : proper (r .listing) ≡ true) where
     pub symmetric : Symmetric (in-row r)
-    symmetric = rule .symmetric
+    symmetric = tables.symmetric (r .listing) passes
 
     pub bounded : length (r .names) ≡ 5 → Bounded (in-row r)
     bounded five n above =
@@ -135,7 +135,7 @@ module _ {W C K : Type 0} (r : Row W C K) where
         let over-five : 5 ≤ n = omega arith in record {
           impossible = λ s a e. ap (λ o. performed-at r o (ltb (r .place (a .parameter)) (r .cells)) s (a .parameter)) (ap (entry (r .names)) e ∙ past);
           nothing = λ s a x e. ap (λ o. taken-back-at r o (ltb (r .place (a .parameter)) (r .cells)) s (a .parameter) x) (ap (entry (r .names)) e ∙ past);
-          not-compensatable = rule .not-compensatable n over-five;
-          not-retriable = rule .not-retriable n over-five;
-          without-conflict = rule .without-conflict n over-five;
+          not-compensatable = tables.not-compensatable (r .listing) passes n over-five;
+          not-retriable = tables.not-retriable (r .listing) passes n over-five;
+          without-conflict = λ k. tables.without-conflict (r .listing) passes n k over-five;
         }

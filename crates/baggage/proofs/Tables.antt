@@ -12,53 +12,24 @@ use Rattle.std.proofs.shelf.Tests.{and-parts, and-left, and-right, or-cases, or
 use Rattle.std.specs.shelf.Lists.{All}
 use Rattle.std.specs.declared.option.Option.the-variants.{None, Some}
 use Rattle.baggage.specs.declared.catalogue.Catalogue.{Catalogue}
-use Rattle.baggage.specs.Tabled.{Listing, listed, matched, neither, kind-at, conflict-at}
+use Rattle.baggage.specs.Tabled.{Listing, listed, matched, neither, kind-at, conflict-at, each-below, alike, all-below, pairs-below, proper, agrees, Agreed}
 use Rattle.baggage.specs.Row.{entry}
 
--- ---- tests over all numbers below a limit
+-- ---- what a test says at each number
 
-abbrev pub each-below : ℕ → (ℕ → Bool) → Bool
-each-below zero f = true
-each-below (suc n) f = f n && each-below n f
-
-pub below : (n : ℕ) (f : ℕ → Bool) → each-below n f ≡ true → (k : ℕ) → k < n → f k ≡ true
+below : (n : ℕ) (f : ℕ → Bool) → each-below n f ≡ true → (k : ℕ) → k < n → f k ≡ true
 below zero f t k h = absurd (omega arith)
 below (suc n) f t k h =
     let both = and-parts (f n) (each-below n f) t in
     ⊎-elim (λ e. subst (λ (i : ℕ). f i ≡ true) (sym e) (both .0)) (λ ne. below n f (both .1) k (omega arith)) (cases-eq k n)
 
-abbrev pub alike : Bool → Bool → Bool
-alike true b = b
-alike false b = not b
+below-both : (f : ℕ → ℕ → Bool) → each-below 5 (λ a. each-below 5 (f a)) ≡ true → (a b : ℕ) → a < 5 → b < 5 → f a b ≡ true
+below-both f t a b h k = below 5 (f a) (below 5 (λ a. each-below 5 (f a)) t a h) b k
 
 alike-same : (a b : Bool) → alike a b ≡ true → a ≡ b
 alike-same true b e = sym e
 alike-same false true e = e
 alike-same false false e = refl
-
--- ---- the test
-
--- each number listed is below the limit
-abbrev pub all-below : ℕ → List ℕ → Bool
-all-below n [] = true
-all-below n (k ∷ ks) = ltb k n && all-below n ks
-
-abbrev pub pairs-below : ℕ → List (ℕ × ℕ) → Bool
-pairs-below n [] = true
-pairs-below n ((k, l) ∷ ps) = (ltb k n && ltb l n) && pairs-below n ps
-
--- at the number a the table has the kinds that are listed, and at each b the conflicts that are listed, both ways
-abbrev pub agrees-at : Catalogue → Listing → ℕ → Bool
-agrees-at t l a =
-    alike (kind-at t a .compensatable) (listed (l .compensatables) a)
-    && (alike (kind-at t a .retriable) (listed (l .retriables) a)
-    && each-below 5 (λ b. alike (conflict-at t a b) (matched (l .conflicts) a b) && alike (matched (l .conflicts) a b) (matched (l .conflicts) b a)))
-
-abbrev pub agrees : Catalogue → Listing → Bool
-agrees t l =
-    (all-below 5 (l .compensatables) && (all-below 5 (l .retriables) && pairs-below 5 (l .conflicts))) && each-below 5 (agrees-at t l)
-
--- ---- the rule
 
 past-listed : (ks : List ℕ) (n : ℕ) → all-below 5 ks ≡ true → 5 ≤ n → listed ks n ≡ false
 past-listed [] n t h = refl
@@ -85,71 +56,85 @@ past-second ((k, l) ∷ ps) a b t h =
     let other-less = ltb-true l 5 (two .1) in
     or-from _ _ (or-from _ _ (and-right (eqb a k) _ (ne-eqb b l (λ e. omega arith))) (and-right (eqb a l) _ (ne-eqb b k (λ e. omega arith)))) (past-second ps a b (both .1) h)
 
--- what a table that passes the test says at every number
-pub record Rule (t : Catalogue) (l : Listing) : Type 0 where
-  pub compensatable : (n : ℕ) → kind-at t n .compensatable ≡ listed (l .compensatables) n
-  pub retriable : (n : ℕ) → kind-at t n .retriable ≡ listed (l .retriables) n
-  pub conflict : (a b : ℕ) → conflict-at t a b ≡ matched (l .conflicts) a b
-  pub symmetric : (a b : ℕ) → matched (l .conflicts) a b ≡ matched (l .conflicts) b a
+-- ---- a proper listing
+
+module _ (l : Listing) (passes : proper l ≡ true) where
+  limits : (all-below 5 (l .compensatables) && (all-below 5 (l .retriables) && pairs-below 5 (l .conflicts)) ≡ true) × (each-below 5 (λ a. each-below 5 (λ b. alike (matched (l .conflicts) a b) (matched (l .conflicts) b a))) ≡ true)
+  unfolding proper
+  limits = and-parts _ _ passes
+
+  limited : (all-below 5 (l .compensatables) ≡ true) × (all-below 5 (l .retriables) && pairs-below 5 (l .conflicts) ≡ true)
+  limited = and-parts _ _ (limits .0)
+
+  limited-rest : (all-below 5 (l .retriables) ≡ true) × (pairs-below 5 (l .conflicts) ≡ true)
+  limited-rest = and-parts _ _ (limited .1)
+
   pub not-compensatable : (n : ℕ) → 5 ≤ n → listed (l .compensatables) n ≡ false
+  not-compensatable n h = past-listed (l .compensatables) n (limited .0) h
+
   pub not-retriable : (n : ℕ) → 5 ≤ n → listed (l .retriables) n ≡ false
-  pub without-conflict : (n : ℕ) → 5 ≤ n → (k : ℕ) → matched (l .conflicts) n k ≡ false
+  not-retriable n h = past-listed (l .retriables) n (limited-rest .0) h
+
+  pub without-conflict : (n k : ℕ) → 5 ≤ n → matched (l .conflicts) n k ≡ false
+  without-conflict n k h = past-first (l .conflicts) n k (limited-rest .1) h
+
+  pub without-conflict-either : (n k : ℕ) → 5 ≤ k → matched (l .conflicts) n k ≡ false
+  without-conflict-either n k h = past-second (l .conflicts) n k (limited-rest .1) h
+
+  pub symmetric : (a b : ℕ) → matched (l .conflicts) a b ≡ matched (l .conflicts) b a
+  symmetric a b =
+      ⊎-elim
+      (λ h.
+      ⊎-elim (λ k. alike-same _ _ (below-both (λ a b. alike (matched (l .conflicts) a b) (matched (l .conflicts) b a)) (limits .1) a b h k))
+      (λ k. without-conflict-either a b k ∙ sym (without-conflict b a k))
+      (cases-lt b 5))
+      (λ h. without-conflict a b h ∙ sym (without-conflict-either b a h))
+      (cases-lt a 5)
+
+-- ---- a table that agrees with a listing has at every number what is listed
 
 module _ (t : Catalogue) (l : Listing) (passes : agrees t l ≡ true) where
-  all : (all-below 5 (l .compensatables) && (all-below 5 (l .retriables) && pairs-below 5 (l .conflicts)) ≡ true) × (each-below 5 (agrees-at t l) ≡ true)
-  all = and-parts _ _ passes
+  is-proper : proper l ≡ true
+  unfolding agrees
+  is-proper = and-parts _ _ passes .0
 
-  limits : (all-below 5 (l .compensatables) ≡ true) × (all-below 5 (l .retriables) && pairs-below 5 (l .conflicts) ≡ true)
-  limits = and-parts _ _ (all .0)
+  entries : (each-below 5 (λ a. alike (kind-at t a .compensatable) (listed (l .compensatables) a) && alike (kind-at t a .retriable) (listed (l .retriables) a)) ≡ true) × (each-below 5 (λ a. each-below 5 (λ b. alike (conflict-at t a b) (matched (l .conflicts) a b))) ≡ true)
+  unfolding agrees
+  entries = and-parts _ _ (and-parts _ _ passes .1)
 
-  limits-rest : (all-below 5 (l .retriables) ≡ true) × (pairs-below 5 (l .conflicts) ≡ true)
-  limits-rest = and-parts _ _ (limits .1)
-
-  at-number : (a : ℕ) → a < 5 → (alike (kind-at t a .compensatable) (listed (l .compensatables) a) ≡ true) × (alike (kind-at t a .retriable) (listed (l .retriables) a) && each-below 5 (λ b. alike (conflict-at t a b) (matched (l .conflicts) a b) && alike (matched (l .conflicts) a b) (matched (l .conflicts) b a)) ≡ true)
-  at-number a h = and-parts _ _ (below 5 (agrees-at t l) (all .1) a h)
-
-  at-both : (a b : ℕ) → a < 5 → b < 5 → (alike (conflict-at t a b) (matched (l .conflicts) a b) ≡ true) × (alike (matched (l .conflicts) a b) (matched (l .conflicts) b a) ≡ true)
-  at-both a b h k =
-      and-parts _ _ (below 5 (λ b. alike (conflict-at t a b) (matched (l .conflicts) a b) && alike (matched (l .conflicts) a b) (matched (l .conflicts) b a)) (and-parts _ _ (at-number a h .1) .1) b k)
+  kinds-at : (a : ℕ) → a < 5 → (alike (kind-at t a .compensatable) (listed (l .compensatables) a) ≡ true) × (alike (kind-at t a .retriable) (listed (l .retriables) a) ≡ true)
+  kinds-at a h =
+      and-parts _ _ (below 5 (λ a. alike (kind-at t a .compensatable) (listed (l .compensatables) a) && alike (kind-at t a .retriable) (listed (l .retriables) a)) (entries .0) a h)
 
   beyond : (n : ℕ) → 5 ≤ n → kind-at t n ≡ neither
   beyond n h = ap (λ b. cond b (getD (t .kinds) n neither) neither) (le-ltb n 5 h)
 
-  apart-first : (a b : ℕ) → 5 ≤ a → conflict-at t a b ≡ false
-  apart-first a b h = ap (λ c. cond c (getD (getD (t .conflicts) a []) b false) false) (and-left (ltb a 5) (ltb b 5) (le-ltb a 5 h))
+  beyond-first : (a b : ℕ) → 5 ≤ a → conflict-at t a b ≡ false
+  beyond-first a b h =
+      ap (λ c. cond c (getD (getD (t .conflicts) a []) b false) false) (and-left (ltb a 5) (ltb b 5) (le-ltb a 5 h))
 
-  apart-second : (a b : ℕ) → 5 ≤ b → conflict-at t a b ≡ false
-  apart-second a b h = ap (λ c. cond c (getD (getD (t .conflicts) a []) b false) false) (and-right (ltb a 5) (ltb b 5) (le-ltb b 5 h))
+  beyond-second : (a b : ℕ) → 5 ≤ b → conflict-at t a b ≡ false
+  beyond-second a b h =
+      ap (λ c. cond c (getD (getD (t .conflicts) a []) b false) false) (and-right (ltb a 5) (ltb b 5) (le-ltb b 5 h))
 
-  pub rule : Rule t l
-  rule = record {
+  pub agreed : Agreed t l
+  agreed = record {
     compensatable = λ n.
-    ⊎-elim (λ h. alike-same _ _ (at-number n h .0))
-    (λ h. ap (λ k. k .compensatable) (beyond n h) ∙ sym (past-listed (l .compensatables) n (limits .0) h))
+    ⊎-elim (λ h. alike-same _ _ (kinds-at n h .0))
+    (λ h. ap (λ k. k .compensatable) (beyond n h) ∙ sym (not-compensatable l is-proper n h))
     (cases-lt n 5);
     retriable = λ n.
-    ⊎-elim (λ h. alike-same _ _ (and-parts _ _ (at-number n h .1) .0))
-    (λ h. ap (λ k. k .retriable) (beyond n h) ∙ sym (past-listed (l .retriables) n (limits-rest .0) h))
+    ⊎-elim (λ h. alike-same _ _ (kinds-at n h .1))
+    (λ h. ap (λ k. k .retriable) (beyond n h) ∙ sym (not-retriable l is-proper n h))
     (cases-lt n 5);
     conflict = λ a b.
     ⊎-elim
     (λ h.
-    ⊎-elim (λ k. alike-same _ _ (at-both a b h k .0))
-    (λ k. apart-second a b k ∙ sym (past-second (l .conflicts) a b (limits-rest .1) k))
+    ⊎-elim (λ k. alike-same _ _ (below-both (λ a b. alike (conflict-at t a b) (matched (l .conflicts) a b)) (entries .1) a b h k))
+    (λ k. beyond-second a b k ∙ sym (without-conflict-either l is-proper a b k))
     (cases-lt b 5))
-    (λ h. apart-first a b h ∙ sym (past-first (l .conflicts) a b (limits-rest .1) h))
+    (λ h. beyond-first a b h ∙ sym (without-conflict l is-proper a b h))
     (cases-lt a 5);
-    symmetric = λ a b.
-    ⊎-elim
-    (λ h.
-    ⊎-elim (λ k. alike-same _ _ (at-both a b h k .1))
-    (λ k. past-second (l .conflicts) a b (limits-rest .1) k ∙ sym (past-first (l .conflicts) b a (limits-rest .1) k))
-    (cases-lt b 5))
-    (λ h. past-first (l .conflicts) a b (limits-rest .1) h ∙ sym (past-second (l .conflicts) b a (limits-rest .1) h))
-    (cases-lt a 5);
-    not-compensatable = λ n h. past-listed (l .compensatables) n (limits .0) h;
-    not-retriable = λ n h. past-listed (l .retriables) n (limits-rest .0) h;
-    without-conflict = λ n h k. past-first (l .conflicts) n k (limits-rest .1) h;
   }
 
 -- ---- a test over a list of activities, with their numbers

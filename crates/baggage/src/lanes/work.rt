@@ -3,7 +3,9 @@ ghost use mathlib.Core.Path.{_≡_};
 ghost use Prim.Native.Nat.{_<_};
 ghost use Rattle.baggage.specs.Row.{entry};
 ghost use Rattle.baggage.specs.declared.lanes.Lanes.{Lanes};
-ghost use Rattle.baggage.specs.Lanes.{counted, raised, lowered, recounted, on-lane, off-lane, names, anywhere, first-lanes, lane-of, with-lane, count-at, flag-at, lanes-meaning};
+ghost use Rattle.baggage.specs.Lanes.{counted, raised, lowered, recounted, on-lane, off-lane, names, anywhere, first-lanes, lane-of, with-lane, count-at, flag-at, lanes-listing, lanes-meaning};
+ghost use Rattle.baggage.specs.Tabled.{agrees};
+ghost use mathlib.Core.Bool.{true};
 use super::Lane;
 use super::LaneActivity;
 use super::LaneCount;
@@ -188,6 +190,13 @@ const CATALOGUE: Catalogue = Catalogue {
     ],
 };
 
+// The table, which has what the rules list.
+fn catalogue() -> Catalogue
+    ensures { λ r. ⌜ agrees r lanes-listing ≡ true ⌝ }
+{
+    CATALOGUE
+}
+
 pub impl Station for Lanes as LanesStation {
     const ACTIVITIES: u32 = 5;
 
@@ -226,14 +235,14 @@ pub impl Station for Lanes as LanesStation {
     }
 
     fn compensatable(&self, number: u8) -> bool {
-        CATALOGUE.kind(number).compensatable
+        catalogue().kind(number).compensatable
     }
 
     fn retriable(&self, number: u8) -> bool {
-        CATALOGUE.kind(number).retriable
+        catalogue().kind(number).retriable
     }
 
     fn conflict(&self, a: u8, b: u8) -> bool {
-        CATALOGUE.conflict(a, b)
+        catalogue().conflict(a, b)
     }
 }

@@ -9,3 +9,9 @@ commutes-law = lane.commutes
 
 pub retries-law : need.retries-law
 retries-law = lane.retries
+
+pub symmetric-law : need.symmetric-law
+symmetric-law = lane.symmetric
+
+pub bounded-law : need.bounded-law
+bounded-law = lane.bounded
