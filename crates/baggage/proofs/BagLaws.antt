@@ -261,7 +261,6 @@ pub retries : AlwaysPossible register-meaning
 retries = row.retries register-row (look-ready, (report-ready, tt))
 
 register-proper : proper register-listing ≡ true
-unfolding proper
 register-proper = refl
 
 pub symmetric : Symmetric register-meaning

@@ -194,7 +194,6 @@ pub retries : AlwaysPossible lanes-meaning
 retries = row.retries lanes-row (count-ready, (flag-ready, tt))
 
 lanes-proper : proper lanes-listing ≡ true
-unfolding proper
 lanes-proper = refl
 
 pub symmetric : Symmetric lanes-meaning

@@ -60,7 +60,6 @@ past-second ((k, l) ∷ ps) a b t h =
 
 module _ (l : Listing) (passes : proper l ≡ true) where
   limits : (all-below 5 (l .compensatables) && (all-below 5 (l .retriables) && pairs-below 5 (l .conflicts)) ≡ true) × (each-below 5 (λ a. each-below 5 (λ b. alike (matched (l .conflicts) a b) (matched (l .conflicts) b a))) ≡ true)
-  unfolding proper
   limits = and-parts _ _ passes
 
   limited : (all-below 5 (l .compensatables) ≡ true) × (all-below 5 (l .retriables) && pairs-below 5 (l .conflicts) ≡ true)
@@ -95,11 +94,9 @@ module _ (l : Listing) (passes : proper l ≡ true) where
 
 module _ (t : Catalogue) (l : Listing) (passes : agrees t l ≡ true) where
   is-proper : proper l ≡ true
-  unfolding agrees
   is-proper = and-parts _ _ passes .0
 
   entries : (each-below 5 (λ a. alike (kind-at t a .compensatable) (listed (l .compensatables) a) && alike (kind-at t a .retriable) (listed (l .retriables) a)) ≡ true) × (each-below 5 (λ a. each-below 5 (λ b. alike (conflict-at t a b) (matched (l .conflicts) a b))) ≡ true)
-  unfolding agrees
   entries = and-parts _ _ (and-parts _ _ passes .1)
 
   kinds-at : (a : ℕ) → a < 5 → (alike (kind-at t a .compensatable) (listed (l .compensatables) a) ≡ true) × (alike (kind-at t a .retriable) (listed (l .retriables) a) ≡ true)
@@ -120,21 +117,21 @@ module _ (t : Catalogue) (l : Listing) (passes : agrees t l ≡ true) where
   pub agreed : Agreed t l
   agreed = record {
     compensatable = λ n.
-    ⊎-elim (λ h. alike-same _ _ (kinds-at n h .0))
-    (λ h. ap (λ k. k .compensatable) (beyond n h) ∙ sym (not-compensatable l is-proper n h))
-    (cases-lt n 5);
+        ⊎-elim (λ h. alike-same _ _ (kinds-at n h .0))
+        (λ h. ap (λ k. k .compensatable) (beyond n h) ∙ sym (not-compensatable l is-proper n h))
+        (cases-lt n 5);
     retriable = λ n.
-    ⊎-elim (λ h. alike-same _ _ (kinds-at n h .1))
-    (λ h. ap (λ k. k .retriable) (beyond n h) ∙ sym (not-retriable l is-proper n h))
-    (cases-lt n 5);
+        ⊎-elim (λ h. alike-same _ _ (kinds-at n h .1))
+        (λ h. ap (λ k. k .retriable) (beyond n h) ∙ sym (not-retriable l is-proper n h))
+        (cases-lt n 5);
     conflict = λ a b.
-    ⊎-elim
-    (λ h.
-    ⊎-elim (λ k. alike-same _ _ (below-both (λ a b. alike (conflict-at t a b) (matched (l .conflicts) a b)) (entries .1) a b h k))
-    (λ k. beyond-second a b k ∙ sym (without-conflict-either l is-proper a b k))
-    (cases-lt b 5))
-    (λ h. beyond-first a b h ∙ sym (without-conflict l is-proper a b h))
-    (cases-lt a 5);
+        ⊎-elim
+        (λ h.
+        ⊎-elim (λ k. alike-same _ _ (below-both (λ a b. alike (conflict-at t a b) (matched (l .conflicts) a b)) (entries .1) a b h k))
+        (λ k. beyond-second a b k ∙ sym (without-conflict-either l is-proper a b k))
+        (cases-lt b 5))
+        (λ h. beyond-first a b h ∙ sym (without-conflict l is-proper a b h))
+        (cases-lt a 5);
   }
 
 -- ---- a test over a list of activities, with their numbers

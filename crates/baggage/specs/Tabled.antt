@@ -57,13 +57,13 @@ pairs-below n [] = true
 pairs-below n ((k, l) ∷ ps) = (ltb k n && ltb l n) && pairs-below n ps
 
 -- the listing speaks of five activities, and its conflicts go both ways
-unfoldable pub proper : Listing → Bool
+abbrev pub proper : Listing → Bool
 proper l =
     (all-below 5 (l .compensatables) && (all-below 5 (l .retriables) && pairs-below 5 (l .conflicts)))
     && each-below 5 (λ a. each-below 5 (λ b. alike (matched (l .conflicts) a b) (matched (l .conflicts) b a)))
 
 -- the table has at each number the kinds that are listed, and at each two numbers the conflict that is listed
-unfoldable pub agrees : Catalogue → Listing → Bool
+abbrev pub agrees : Catalogue → Listing → Bool
 agrees t l =
     proper l
     && (each-below 5 (λ a. alike (kind-at t a .compensatable) (listed (l .compensatables) a) && alike (kind-at t a .retriable) (listed (l .retriables) a))

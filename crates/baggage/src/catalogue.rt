@@ -70,6 +70,10 @@ impl Catalogue {
     {
         let i = usize::from(a);
         let j = usize::from(b);
-        if i < 5 && j < 5 { self.conflicts[i][j] } else { false }
+        if i < 5 && j < 5 {
+            self.conflicts[i][j]
+        } else {
+            false
+        }
     }
 }

@@ -3,7 +3,7 @@ ghost use mathlib.Core.Path.{_≡_};
 ghost use Prim.Native.Nat.{_<_};
 ghost use Rattle.baggage.specs.Row.{entry};
 ghost use Rattle.baggage.specs.declared.lanes.Lanes.{Lanes};
-ghost use Rattle.baggage.specs.Lanes.{counted, raised, lowered, recounted, on-lane, off-lane, names, anywhere, first-lanes, lane-of, with-lane, count-at, flag-at, lanes-listing, lanes-meaning};
+ghost use Rattle.baggage.specs.Lanes.{counted, raised, lowered, with-count, flagged, recounted, on-lane, off-lane, names, anywhere, first-lanes, lane-of, with-lane, count-at, flag-at, lanes-listing, lanes-meaning};
 ghost use Rattle.baggage.specs.Tabled.{agrees};
 ghost use mathlib.Core.Bool.{true};
 use super::Lane;
@@ -52,18 +52,30 @@ impl LaneCount {
 }
 
 impl Lane {
+    fn with_count(self, count: LaneCount) -> Lane
+        ensures { λ r. ⌜ r ≡ with-count self count ⌝ }
+    {
+        Lane {
+            count,
+            flag: self.flag,
+        }
+    }
+
+    fn flagged(self) -> Lane
+        ensures { λ r. ⌜ r ≡ flagged self ⌝ }
+    {
+        Lane {
+            count: self.count,
+            flag: true,
+        }
+    }
+
     // The answer 0 and the lane with another count, if there is one.
     fn recounted(self, count: Option<LaneCount>) -> Option<(u32, Lane)>
         ensures { λ r. ⌜ r ≡ recounted self count ⌝ }
     {
         match count {
-            Some(count) => Some((
-                0,
-                Lane {
-                    count,
-                    flag: self.flag,
-                },
-            )),
+            Some(count) => Some((0, self.with_count(count))),
             None => None,
         }
     }
@@ -76,13 +88,7 @@ impl Lane {
             LaneActivity::Take => self.recounted(self.count.raised()),
             LaneActivity::Give | LaneActivity::Send => self.recounted(self.count.lowered()),
             LaneActivity::Count => Some((u32::from(self.count.value), self)),
-            LaneActivity::Flag => Some((
-                0,
-                Lane {
-                    count: self.count,
-                    flag: true,
-                },
-            )),
+            LaneActivity::Flag => Some((0, self.flagged())),
         }
     }
 
@@ -90,14 +96,10 @@ impl Lane {
     fn take_back(self, activity: LaneActivity) -> Lane
         ensures { λ r. ⌜ r ≡ off-lane activity self ⌝ }
     {
-        let count = match activity {
-            LaneActivity::Take => self.count.lowered().unwrap_or(self.count),
-            LaneActivity::Give => self.count.raised().unwrap_or(self.count),
-            _ => self.count,
-        };
-        Lane {
-            count,
-            flag: self.flag,
+        match activity {
+            LaneActivity::Take => self.with_count(self.count.lowered().unwrap_or(self.count)),
+            LaneActivity::Give => self.with_count(self.count.raised().unwrap_or(self.count)),
+            _ => self,
         }
     }
 }
