@@ -3,7 +3,9 @@ ghost use Prim.Native.Nat.{_≤_};
 ghost use mathlib.Core.Path.{_≡_};
 ghost use lib.ListN.{length};
 
-pub mod work;
+mod work;
+
+pub use work::LanesStation;
 
 // A number of bags, from 0 to 200.
 #[derive(Clone, Copy)]

@@ -1,9 +1,9 @@
 // The stations of a baggage hall: Lanes, the early bag store, and the Register of bags.
-pub mod catalogue;
-pub mod lanes;
-pub mod register;
+mod catalogue;
+mod lanes;
+mod register;
 
 pub use lanes::Lanes;
-pub use lanes::work::LanesStation;
+pub use lanes::LanesStation;
 pub use register::Register;
-pub use register::work::RegisterStation;
+pub use register::RegisterStation;

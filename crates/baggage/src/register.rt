@@ -3,7 +3,9 @@ ghost use Prim.Native.Nat.{_<_};
 ghost use mathlib.Core.Path.{_≡_};
 ghost use lib.ListN.{length};
 
-pub mod work;
+mod work;
+
+pub use work::RegisterStation;
 
 // A stand is where a bag waits, from 1 to 15.
 #[derive(Clone, Copy)]

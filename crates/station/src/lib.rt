@@ -1,6 +1,10 @@
 // Stations: what the steps of a process work on, with two that are made of others.
-pub mod pair;
-pub mod renumbering;
+mod pair;
+mod renumbering;
 mod station;
 
+pub use pair::Pair;
+pub use pair::PairStation;
+pub use renumbering::Renumbering;
+pub use renumbering::RenumberingStation;
 pub use station::Station;

@@ -50,7 +50,7 @@ impl<A, B> Pair<A, B> {
 
 // The half of a pair that a number belongs to, with its number there.
 #[derive(Clone, Copy)]
-pub enum Half {
+enum Half {
     First(u8),
     Second(u8),
     Neither,

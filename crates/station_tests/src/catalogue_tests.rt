@@ -3,11 +3,11 @@ use baggage::Lanes;
 use baggage::LanesStation;
 use baggage::Register;
 use baggage::RegisterStation;
+use station::Pair;
+use station::PairStation;
+use station::Renumbering;
+use station::RenumberingStation;
 use station::Station;
-use station::pair::Pair;
-use station::pair::PairStation;
-use station::renumbering::Renumbering;
-use station::renumbering::RenumberingStation;
 use std::test::*;
 
 fn among(pairs: &[(u8, u8)], a: u8, b: u8) -> bool {
