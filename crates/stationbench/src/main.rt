@@ -3,7 +3,6 @@ ghost use mathlib.Core.Path.{_≡_};
 ghost use Rattle.baggage.specs.Lanes.{first-lanes};
 ghost use Rattle.baggage.specs.Register.{first-register};
 ghost use Rattle.stationbench.specs.Outcome.{outcome-of, state-of};
-use activity::Activity;
 use baggage::Lanes;
 use baggage::LanesStation;
 use baggage::Register;
@@ -100,10 +99,12 @@ fn run(rt: &LibcRuntime) -> io::Result<()> {
 }
 
 fn main(rt: LibcRuntime) -> io::Result<()> {
-    for argument in env::args(&rt)?.skip(1) {
-        if argument.as_str() == "--help" {
-            return shown::help(&rt);
+    match env::args(&rt)?.nth(1) {
+        Some(argument) if argument.as_str() == "--help" => shown::help(&rt),
+        Some(argument) => {
+            println!(rt, "stationbench does not know the argument {argument}.")?;
+            shown::help(&rt)
         }
+        None => run(&rt),
     }
-    run(&rt)
 }

@@ -14,6 +14,7 @@ pub enum Outcome {
     NoActivity,
 }
 
+// The kinds of an activity in words.
 fn kinds(compensatable: bool, retriable: bool) -> &'static str {
     match (compensatable, retriable) {
         (true, true) => "compensatable and retriable",

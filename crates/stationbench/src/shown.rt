@@ -1,4 +1,7 @@
 // The printed state and the help.
+ghost use mathlib.Core.Path.{_≡_};
+ghost use mathlib.Core.Bool.{cond};
+ghost use mathlib.Core.List.{[]};
 use baggage::Lanes;
 use baggage::Register;
 use std::io;
@@ -6,7 +9,10 @@ use std::io;
 // The tag of lane 0.
 const FIRST_TAG: u16 = 101;
 
-fn mark(set: bool, word: &'static str) -> &'static str {
+// The word of a mark that is set, nothing of one that is not.
+fn mark(set: bool, word: &'static str) -> &'static str
+    ensures { λ r. ⌜ now r ≡ cond set (now (word .entry)) [] ⌝ }
+{
     if set { word } else { "" }
 }
 
