@@ -1,4 +1,4 @@
-// Stations: what the steps of a process work on, with two that are made of others.
+// Stations: a state that activities change, with two stations that are made of others.
 mod pair;
 mod renumbering;
 mod station;

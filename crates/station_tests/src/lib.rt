@@ -6,6 +6,8 @@ use activity::Activity;
 use station::Station;
 
 #[cfg(test)]
+mod asked;
+#[cfg(test)]
 mod catalogue_tests;
 #[cfg(test)]
 mod lanes_tests;

@@ -1,5 +1,5 @@
 // Pair and Renumbering: which station an activity reaches, and with which parameter.
-use activity::Activity;
+use crate::asked::*;
 use baggage::Lanes;
 use baggage::LanesStation;
 use baggage::Register;
@@ -11,16 +11,13 @@ use station::RenumberingStation;
 use station::Station;
 use std::test::*;
 
-fn act(number: u8, parameter: u16) -> Activity {
-    Activity { number, parameter }
-}
-
 #[test]
 fn halves() -> Result<(), Fail> {
     let mut pair = Pair::new(Lanes::new(), Register::new());
-    check_eq(pair.perform(act(0, 3)), Some(0))?;
-    check_eq(pair.perform(act(32, 37)), Some(0))?;
-    check_eq(pair.perform(act(33, 32)), Some(5))?;
+    performs(
+        &mut pair,
+        &[(0, 3, Some(0)), (32, 37, Some(0)), (33, 32, Some(5))],
+    )?;
     pair.take_back(act(33, 32), 5);
     check_eq(pair.first().count(3), Some(1))?;
     check_eq(pair.second().stand(2), Some(5))?;
@@ -46,11 +43,16 @@ fn numbers_that_nothing_uses() -> Result<(), Fail> {
 fn tags_wrap_around() -> Result<(), Fail> {
     let mut lanes = Renumbering::new(Lanes::new(), 65435);
     check_eq(lanes.offset(), 65435)?;
-    check_eq(lanes.perform(act(0, 101)), Some(0))?;
-    check_eq(lanes.perform(act(4, 116)), Some(0))?;
-    check_eq(lanes.perform(act(0, 100)), None)?;
-    check_eq(lanes.perform(act(0, 117)), None)?;
-    check_eq(lanes.perform(act(0, 0)), None)?;
+    performs(
+        &mut lanes,
+        &[
+            (0, 101, Some(0)),
+            (4, 116, Some(0)),
+            (0, 100, None),
+            (0, 117, None),
+            (0, 0, None),
+        ],
+    )?;
     check_eq(lanes.inner().count(0), Some(1))?;
     check_eq(lanes.inner().flag(15), Some(true))?;
     lanes.take_back(act(0, 101), 0);

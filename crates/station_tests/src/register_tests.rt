@@ -1,22 +1,10 @@
-// The register at its edges.
+// The register at its edges. A parameter is bag x 16 + stand: 4095 is bag 255 with stand 15, and 37 bag 2 with stand 5.
+use crate::asked::*;
 use crate::rehearse;
-use activity::Activity;
 use baggage::Register;
 use baggage::RegisterStation;
 use station::Station;
 use std::test::*;
-
-// The parameter of a bag at a stand.
-fn act(number: u8, bag: u8, stand: u8) -> Activity {
-    let parameter = u16::from(bag)
-        .wrapping_mul(16)
-        .wrapping_add(u16::from(stand));
-    Activity { number, parameter }
-}
-
-fn raw(number: u8, parameter: u16) -> Activity {
-    Activity { number, parameter }
-}
 
 #[test]
 fn first_state() -> Result<(), Fail> {
@@ -32,15 +20,23 @@ fn first_state() -> Result<(), Fail> {
 #[test]
 fn entered_and_struck() -> Result<(), Fail> {
     let mut register = Register::new();
-    check_eq(register.perform(act(0, 255, 0)), None).note("0 is no stand")?;
-    check_eq(register.perform(act(1, 255, 0)), None).note("it is absent")?;
-    check_eq(register.perform(act(2, 255, 3)), Some(0))?;
-    check_eq(register.perform(act(0, 255, 15)), Some(0))?;
-    check_eq(register.perform(act(0, 255, 4)), None).note("it is present")?;
-    check_eq(register.perform(act(2, 255, 3)), Some(15))?;
-    check_eq(register.perform(act(1, 255, 2)), Some(15))?;
+    // 0 is no stand; an absent bag is not struck; looking tells 0
+    performs(
+        &mut register,
+        &[(0, 4080, None), (1, 4080, None), (2, 4083, Some(0))],
+    )?;
+    // a bag that is present is not entered again
+    performs(
+        &mut register,
+        &[
+            (0, 4095, Some(0)),
+            (0, 4084, None),
+            (2, 4083, Some(15)),
+            (1, 4082, Some(15)),
+        ],
+    )?;
     check_eq(register.stand(255), None)?;
-    register.take_back(act(1, 255, 2), 15);
+    register.take_back(act(1, 4082), 15);
     check_eq(register.stand(255), Some(15))?;
     check_eq(register.stand(254), None)
 }
@@ -48,47 +44,65 @@ fn entered_and_struck() -> Result<(), Fail> {
 #[test]
 fn sealed_and_reported() -> Result<(), Fail> {
     let mut register = Register::new();
-    check_eq(register.perform(act(3, 7, 0)), None).note("it is absent")?;
-    check_eq(register.perform(act(4, 7, 0)), Some(0))?;
-    check_eq(register.perform(act(0, 7, 9)), Some(0))?;
-    check_eq(register.perform(act(3, 7, 1)), Some(9))?;
-    check_eq(register.perform(act(3, 7, 1)), None).note("it is sealed")?;
-    check_eq(register.perform(act(1, 7, 1)), None).note("it is sealed")?;
-    check_eq(register.perform(act(2, 7, 1)), Some(9))?;
-    register.take_back(act(3, 7, 1), 9);
-    check(register.sealed(7)).note("taking back a seal does nothing")?;
-    register.take_back(act(0, 7, 9), 0);
-    check_eq(register.stand(7), None)?;
-    check(register.sealed(7))?;
-    check(register.reported(7))
+    // an absent bag is not sealed, and can be reported
+    performs(
+        &mut register,
+        &[
+            (3, 32, None),
+            (4, 32, Some(0)),
+            (0, 37, Some(0)),
+            (3, 33, Some(5)),
+        ],
+    )?;
+    // a sealed one is neither sealed again nor struck
+    performs(
+        &mut register,
+        &[(3, 33, None), (1, 33, None), (2, 33, Some(5))],
+    )?;
+    register.take_back(act(3, 33), 5);
+    check(register.sealed(2)).note("taking back a seal does nothing")?;
+    register.take_back(act(0, 37), 0);
+    check_eq(register.stand(2), None)?;
+    check(register.sealed(2))?;
+    check(register.reported(2))
 }
 
 #[test]
 fn taken_back() -> Result<(), Fail> {
     let mut register = Register::new();
-    check_eq(rehearse(&mut register, act(0, 1, 5)), Some(0))?;
-    check_eq(register.stand(1), None)?;
-    check_eq(register.perform(act(0, 1, 5)), Some(0))?;
-    check_eq(rehearse(&mut register, act(1, 1, 0)), Some(5))?;
-    check_eq(register.stand(1), Some(5))?;
-    register.take_back(act(1, 1, 0), 16);
-    check_eq(register.stand(1), None).note("16 is 0 modulo 16")?;
-    register.take_back(act(1, 1, 0), 4294967295);
-    check_eq(register.stand(1), Some(15))?;
-    register.take_back(act(2, 1, 0), 3);
-    check_eq(register.stand(1), Some(15)).note("taking back a look does nothing")
+    check_eq(rehearse(&mut register, act(0, 37)), Some(0))?;
+    check_eq(register.stand(2), None)?;
+    performs(&mut register, &[(0, 37, Some(0))])?;
+    check_eq(rehearse(&mut register, act(1, 32)), Some(5))?;
+    check_eq(register.stand(2), Some(5))
+}
+
+#[test]
+fn taken_back_with_any_answer() -> Result<(), Fail> {
+    let mut register = Register::new();
+    register.take_back(act(1, 32), 4294967295);
+    check_eq(register.stand(2), Some(15))?;
+    register.take_back(act(2, 32), 3);
+    check_eq(register.stand(2), Some(15)).note("taking back a look does nothing")?;
+    register.take_back(act(1, 32), 16);
+    check_eq(register.stand(2), None).note("16 is 0 modulo 16")
 }
 
 #[test]
 fn no_such_bag() -> Result<(), Fail> {
     let mut register = Register::new();
-    for parameter in [4096, 4097, 8191, 65535] {
-        check_eq(register.perform(raw(0, parameter)), None)?;
-        check_eq(register.perform(raw(1, parameter)), None)?;
-        check_eq(register.perform(raw(2, parameter)), Some(0))?;
-        check_eq(register.perform(raw(3, parameter)), None)?;
-        check_eq(register.perform(raw(4, parameter)), Some(0))?;
-        register.take_back(raw(1, parameter), 3);
+    for p in [4096, 4097, 8191, 65535] {
+        performs(
+            &mut register,
+            &[
+                (0, p, None),
+                (1, p, None),
+                (2, p, Some(0)),
+                (3, p, None),
+                (4, p, Some(0)),
+            ],
+        )?;
+        register.take_back(act(1, p), 3);
     }
     check_eq(register.stand(0), None)?;
     check_eq(register.stand(255), None)?;
