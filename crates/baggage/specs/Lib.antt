@@ -1,0 +1,4 @@
+pub mod Tabled
+pub mod Row
+pub mod Lanes
+pub mod Register

@@ -1,0 +1,12 @@
+use Prim.Native.Nat.{_-_, _≤_}
+use mathlib.Core.Path.{_≡_}
+use lib.ListN.{length}
+use Rattle.bench_lines.specs.Lines.{past}
+use Rattle.bench_lines.proofs.run.Given as given
+
+abbrev pub Inv-loop-i : given.InvT-loop-i
+Inv-loop-i l =
+    (l .start ≤ l .i) × (l .i ≤ length (l .text)) × (past (l .class) (l .text) (l .i) ≡ past (l .class) (l .text) (l .start))
+
+abbrev pub μ-loop-i : given.MeasureT-loop-i
+μ-loop-i l = length (l .text) - l .i

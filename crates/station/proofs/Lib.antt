@@ -1,0 +1,3 @@
+pub mod Part
+pub mod Renumbered
+pub mod Paired
