@@ -52,8 +52,8 @@ unit-by false b is h k ys =
     let whole : b / 16 * 16 + b % 16 ≡ b = omega arith in (
       k + 1 + 1,
       ap (λ s. read-on k None (taken-by None (hex (b / 16)) s) (λ w. bytes-from (k + 1) w (hex (b % 16) ∷ ys))) (hex-sign (b / 16) high)
-      ∙ ap (λ s. read-on (k + 1) (Some (b / 16)) (taken-by (Some (b / 16)) (hex (b % 16)) s) (λ w. bytes-from (k + 1 + 1) w ys)) (hex-sign (b % 16) low)
-      ∙ ap (λ x. with-front (x ∷ []) (bytes-from (k + 1 + 1) None ys)) whole,
+          ∙ ap (λ s. read-on (k + 1) (Some (b / 16)) (taken-by (Some (b / 16)) (hex (b % 16)) s) (λ w. bytes-from (k + 1 + 1) w ys)) (hex-sign (b % 16) low)
+          ∙ ap (λ x. with-front (x ∷ []) (bytes-from (k + 1 + 1) None ys)) whole,
     )
 
 unit-stands : (due b : ℕ) → b < 256 → Stands-for (unit due b) (b ∷ [])

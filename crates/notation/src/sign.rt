@@ -5,14 +5,14 @@ ghost use Rattle.notation.specs.Notation.{sign-of, Low-sign, hex, is-command};
 
 // A blank, a command's letter or mark, a hexadecimal digit, or none of these.
 #[derive(Clone, Copy)]
-pub enum Sign {
+pub(crate) enum Sign {
     Blank,
     Command,
     Digit(u8),
     Other,
 }
 
-pub fn sign_of(c: u8) -> Sign
+pub(crate) fn sign_of(c: u8) -> Sign
     ensures is { λ r. ⌜ r ≡ sign-of c ⌝ }
     ensures low { λ r. ⌜ Low-sign r ⌝ }
 {
@@ -30,7 +30,7 @@ pub fn sign_of(c: u8) -> Sign
 }
 
 // Whether a byte is a command's letter or mark.
-pub fn is_command(c: u8) -> bool
+pub(crate) fn is_command(c: u8) -> bool
     ensures { λ r. ⌜ r ≡ is-command c ⌝ }
 {
     match c as char {
@@ -40,7 +40,7 @@ pub fn is_command(c: u8) -> bool
 }
 
 // The character of a hexadecimal digit.
-pub fn hex(digit: u8) -> u8
+pub(crate) fn hex(digit: u8) -> u8
     requires { ⌜ digit < 16 ⌝ }
     ensures { λ r. ⌜ r ≡ hex digit ⌝ }
 {

@@ -300,7 +300,7 @@ module _ (p : Program) (at : ℕ) (choices : Option ℕ) (k : ℕ) (s : Step) wh
       let cs = program-commands p in
       let is : step-of x ≡ Some s = item-step x choices s (comes-here x xs choices cs at k e ∙ c) in
       let split : steps-among cs ≡ steps-among (take at cs) ++ s ∷ steps-among xs =
-        ap steps-among (sym (take-append-drop at cs) ∙ ap (λ r. take at cs ++ r) e) ∙ among-append (take at cs) (x ∷ xs) ∙ ap (λ o. steps-among (take at cs) ++ with-step o (steps-among xs)) is in
+      ap steps-among (sym (take-append-drop at cs) ∙ ap (λ r. take at cs ++ r) e) ∙ among-append (take at cs) (x ∷ xs) ∙ ap (λ o. steps-among (take at cs) ++ with-step o (steps-among xs)) is in
       ap (λ l. nth l (length (steps-among (take at cs)))) split ∙ nth-there (steps-among (take at cs)) (steps-among xs) s
 
   -- the step that is next has as its ordinal how many stand before it

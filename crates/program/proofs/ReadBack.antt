@@ -96,6 +96,5 @@ mutual
       ∙ ap (λ r. body-steps b ++ r) (steps-of-choices c xs)
       ∙ sym (append-assoc (body-steps b) (choices-steps c) (steps-among xs))
 
-
 pub text-steps : (b : Body) → steps-among (text-commands b) ≡ body-steps b
 text-steps b = steps-of-body b (Stop ∷ []) ∙ append-nil (body-steps b)

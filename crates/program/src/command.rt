@@ -37,7 +37,7 @@ pub enum Command {
 
 impl Command {
     // The letter or mark that stands for the command in a text.
-    pub fn letter(self) -> char
+    pub(crate) fn letter(self) -> char
         ensures { λ r. ⌜ r ≡ mark self ⌝ }
     {
         match self {

@@ -7,11 +7,11 @@ ghost use Rattle.program.specs.Contexts.{at-pivot, at-choice, closed, end-mark
 ghost use Rattle.program.specs.Outcome.{Parsed};
 ghost use Rattle.program.specs.Refusals.{Within, Refused};
 ghost use Rattle.program.specs.Reads.{text-of, commands-of, context, Sound, Peeked, Spelled, Pushed, StepNext, Operands, MarkNext, OtherThan, Passed, Ready, BodyNext, RowNext, Reads, RowRead};
-use activity::Activity;
 use crate::Command;
 use crate::Fault;
 use crate::Program;
 use crate::Refusal;
+use activity::Activity;
 
 pub(crate) const MAX_BYTES: usize = 255;
 

@@ -31,7 +31,10 @@ fn step(kind: Kind, number: u8, parameter: u16) -> Option<Step> {
 
 #[test]
 fn a_way_through_nested_alternatives(rt: LibcRuntime) -> Result<(), Fail> {
-    let p = program(rt.alloc(), "C 00 0065 P 23 0013 [ C 20 0015 P 23 0015 [ R 24 0015 ] | | R 24 0013 R 04 0065 ] .")?;
+    let p = program(
+        rt.alloc(),
+        "C 00 0065 P 23 0013 [ C 20 0015 P 23 0015 [ R 24 0015 ] | | R 24 0013 R 04 0065 ] .",
+    )?;
     let start = Cursor::start();
     check_eq(p.next(start), step(Kind::Compensatable, 0, 101))?;
     let pivot = p.onward(start);

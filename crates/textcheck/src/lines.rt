@@ -24,9 +24,15 @@ pub fn show(rt: &LibcRuntime, number: usize, line: &str) -> Result<(), AnyError>
 fn show_unreadable(rt: &LibcRuntime, number: usize, line: &str, column: usize) -> io::Result<()> {
     let shown = column.saturating_add(1);
     if column >= line.len() {
-        println!(rt, "line {number}, column {shown}: the second hexadecimal digit of a byte is missing")?;
+        println!(
+            rt,
+            "line {number}, column {shown}: the second hexadecimal digit of a byte is missing"
+        )?;
     } else {
-        println!(rt, "line {number}, column {shown}: this cannot stand here (--help explains the notation)")?;
+        println!(
+            rt,
+            "line {number}, column {shown}: this cannot stand here (--help explains the notation)"
+        )?;
     }
     println!(rt, "    {line}")?;
     caret(rt, column)
@@ -48,7 +54,12 @@ fn show_text(rt: &LibcRuntime, number: usize, bytes: &[u8]) -> Result<(), AnyErr
     Ok(())
 }
 
-fn show_refusal(rt: &LibcRuntime, refusal: Refusal, text: &str, bytes: &[u8]) -> Result<(), AnyError> {
+fn show_refusal(
+    rt: &LibcRuntime,
+    refusal: Refusal,
+    text: &str,
+    bytes: &[u8],
+) -> Result<(), AnyError> {
     let number = refusal.fault.number();
     let place = refusal.place;
     let why = meaning(refusal, bytes);
@@ -81,7 +92,8 @@ fn caret(rt: &LibcRuntime, column: usize) -> io::Result<()> {
 fn meaning(refusal: Refusal, bytes: &[u8]) -> &'static str {
     match (refusal.fault, bytes.get(refusal.place)) {
         (Fault::TooLong, _) => "the text is over 255 bytes",
-        (Fault::Misplaced, Some(b'C' | b'P' | b'R' | b'[' | b'|' | b']' | b'.')) => "this command cannot stand here",
+        (Fault::Misplaced, Some(b'C' | b'P' | b'R' | b'[' | b'|' | b']' | b'.')) =>
+            "this command cannot stand here",
         (Fault::Misplaced, _) => "this byte is no command",
         (Fault::CutOff, None) => "the text ends before its full stop",
         (Fault::CutOff, _) => "the operands of this step are cut off",

@@ -14,7 +14,10 @@ fn run(rt: &LibcRuntime) -> Result<(), AnyError> {
     let _program = args.next();
     if let Some(word) = args.next() {
         if word.as_str() != "--help" {
-            println!(rt, "textcheck takes no argument but --help, and this is not it: {word}")?;
+            println!(
+                rt,
+                "textcheck takes no argument but --help, and this is not it: {word}"
+            )?;
         }
         help::show(rt)?;
         return Ok(());

@@ -92,7 +92,10 @@ fn show_step(rt: &LibcRuntime, walk: &Walk, step: Step) -> io::Result<()> {
     let number = step.activity.number;
     let parameter = step.activity.parameter;
     indent(rt, walk.depth)?;
-    println!(rt, "step {ordinal}: {kind}, activity {number}, parameter {parameter}")
+    println!(
+        rt,
+        "step {ordinal}: {kind}, activity {number}, parameter {parameter}"
+    )
 }
 
 fn show_alternative(rt: &LibcRuntime, walk: &Walk) -> io::Result<()> {

@@ -64,8 +64,8 @@ choices-body-requires t c κs =
       (
         inv .0 .sound,
         choice-goes-on (c .loop-self .self) (c .args .depth) (inv .1)
-        (λ here is. elim (c .in-rest .came) [ choices-in-rest·by·in-Some··in-rest· w ↦ search needs | choices-in-rest·by·in-None· w ↦ search needs ])
-        (λ here is. elim (c .in-rest .came) [ choices-in-rest·by·in-Some··in-rest· w ↦ search needs | choices-in-rest·by·in-None· w ↦ search needs ]),
+            (λ here is. elim (c .in-rest .came) [ choices-in-rest·by·in-Some··in-rest· w ↦ search needs | choices-in-rest·by·in-None· w ↦ search needs ])
+            (λ here is. elim (c .in-rest .came) [ choices-in-rest·by·in-Some··in-rest· w ↦ search needs | choices-in-rest·by·in-None· w ↦ search needs ]),
       ),
     )
 
