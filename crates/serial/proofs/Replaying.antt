@@ -28,7 +28,7 @@ module _ {R S : Type 0} (Step : R → S → S → Type 0) where
     good-after (r ∷ rs) s t good replay = good-after rs (replay .0) t (closed r s (replay .0) good (replay .1)) (replay .2)
 
     module _ (conflict : R → R → Bool) (swap : Swap Step conflict Good) where
-      -- a record goes towards the end, past those that may stand before it and do not conflict with it
+      -- a record goes towards the end, past those that it may not stand before, and does not conflict with
       insert-replays : (first : R → R → Bool) (r : R) (xs : List R) (s t : S) → Good s → All (λ x. first r x ≡ false → conflict r x ≡ false) xs → Replays Step (r ∷ xs) s t → Replays Step (insert first r xs) s t
       insert-replays first r [] s t good free replay = replay
       insert-replays first r (x ∷ xs) s t good free replay = go (first r x) refl (λ k good′. insert-replays first r xs k t good′ (free .1))

@@ -9,7 +9,7 @@ use Rattle.std.specs.Slices.{Shuffled}
 use Rattle.std.specs.shelf.Lists.{All, kept-by}
 use Rattle.std.proofs.shelf.Elements.{all-weaker, kept-by-passes}
 use Rattle.std.proofs.shelf.Sorted.{shuffled-refl, shuffled-cons, shuffled-trans, shuffled-swap, all-shuffled}
-use Rattle.std.proofs.shelf.Tests.{both-ways, leb-true, leb-false, le-leb, eqb-true, not-true}
+use Rattle.std.proofs.shelf.Tests.{both-ways, leb-true, leb-false, le-leb, eqb-true}
 use Rattle.serial.specs.Sorts.{Pairwise, Total, Transitive, Sorted, insert, sort, by-rank, low-first, Stable-sort, Stable-sort-by-rank}
 
 module _ {R : Type 0} where

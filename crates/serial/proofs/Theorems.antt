@@ -15,15 +15,15 @@ use Rattle.serial.proofs.Replaying.{sort-replays, take-back}
 module _ {A S : Type 0} (M : Meaning A S) (good : S → Type 0) (closed : Keeps-good M good) (commutes : Commutes M good) {R : Type 0} where
   module _ (action : R → A) (answer : R → ℕ) where
     -- the laws of actions, at records
-    pub at-records : Closed (Performs M action answer) good
-    at-records r s t = closed (action r) (answer r) s t
+    pub closed-records : Closed (Performs M action answer) good
+    closed-records r s t = closed (action r) (answer r) s t
 
     pub swap-records : Swap (Performs M action answer) (λ a b. M .conflict (action a) (action b)) good
     swap-records a b s m t = commutes (action a) (action b) (answer a) (answer b) s m t
 
   pub sorting-replays : Sorting-replays M good R
   sorting-replays action answer =
-      sort-replays (Performs M action answer) good (at-records action answer) (λ a b. M .conflict (action a) (action b)) (swap-records action answer)
+      sort-replays (Performs M action answer) good (closed-records action answer) (λ a b. M .conflict (action a) (action b)) (swap-records action answer)
 
   pub sorting-by-rank-replays : Sorting-by-rank-replays M good R
   sorting-by-rank-replays action answer rank log s t start free =
@@ -40,7 +40,7 @@ module _ {A S : Type 0} (M : Meaning A S) (good : S → Type 0) (closed : Keeps-
   pub taking-back-replays : Restores M good → Taking-back-replays M good R
   taking-back-replays restores action answer xs r ys s t start compensatable free replay =
       let (u, back, rest) =
-          take-back (Performs M action answer) good (at-records action answer) (λ a b. M .conflict (action a) (action b)) (swap-records action answer)
-          r (λ t u. M .undone (action r) (answer r) t ≡ u) (λ u t. λ fine did. restores (action r) (answer r) u t fine compensatable did)
+          take-back (Performs M action answer) good (closed-records action answer) (λ a b. M .conflict (action a) (action b)) (swap-records action answer)
+          r (λ t u. M .undone (action r) (answer r) t ≡ u) (λ u t fine did. restores (action r) (answer r) u t fine compensatable did)
           xs ys s t start free replay in
       subst (λ v. Replays (Performs M action answer) (xs ++ ys) s v) (sym back) rest

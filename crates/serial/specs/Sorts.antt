@@ -42,6 +42,10 @@ by-rank rank a b = leb (rank a) (rank b)
 abbrev pub low-first : {R : Type 0} → (R → Bool) → R → R → Bool
 low-first low a b = low a || not (low b)
 
+-- the records of an owner, in the order of the log
+abbrev pub records-of : {R : Type 0} → (R → ℕ) → ℕ → List R → List R
+records-of owner n log = kept-by (λ r. eqb (owner r) n) log
+
 -- `serial` is `log` in an order that the comparison allows
 pub record Stable-sort {R : Type 0} (first : R → R → Bool) (log serial : List R) : Type 0 where
   -- the same records: exchanges of two places lead from the one list to the other
@@ -54,4 +58,4 @@ pub record Stable-sort {R : Type 0} (first : R → R → Bool) (log serial : Lis
 pub record Stable-sort-by-rank {R : Type 0} (rank : R → ℕ) (log serial : List R) : Type 0 where
   pub permuted : Shuffled log serial
   pub sorted : Pairwise (λ a b. rank a ≤ rank b) serial
-  pub stable : (n : ℕ) → kept-by (λ r. eqb (rank r) n) serial ≡ kept-by (λ r. eqb (rank r) n) log
+  pub stable : (n : ℕ) → records-of rank n serial ≡ records-of rank n log

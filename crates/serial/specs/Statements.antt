@@ -4,7 +4,7 @@ use mathlib.Core.Bool.{Bool, true, false, not}
 use mathlib.Core.List.{List, [], _∷_, _++_}
 use Prim.Native.Nat.{ℕ, _<_}
 use Rattle.std.specs.shelf.Lists.{All, kept-by}
-use Rattle.serial.specs.Sorts.{Pairwise, sort, by-rank, Stable-sort, Stable-sort-by-rank}
+use Rattle.serial.specs.Sorts.{Pairwise, Sorted, records-of, sort, by-rank, Stable-sort, Stable-sort-by-rank}
 use Rattle.serial.specs.Replay.{Replays}
 use Rattle.serial.specs.Actions.{Meaning, Performs}
 
@@ -14,6 +14,16 @@ Sorting-sorts R = (first : R → R → Bool) (log : List R) → Stable-sort firs
 
 abbrev pub Sorting-by-rank-sorts : Type 0 → Type 0
 Sorting-by-rank-sorts R = (rank : R → ℕ) (log : List R) → Stable-sort-by-rank rank log (sort (by-rank rank) log)
+
+-- There is one serial order: where only records of one owner tie, two sorted logs that have each owner's records in the same order are the same.
+abbrev pub One-serial-order : Type 0 → Type 0
+One-serial-order R =
+    (first : R → R → Bool) (owner : R → ℕ) (xs ys : List R)
+    → Sorted first xs
+    → Sorted first ys
+    → ((n : ℕ) → records-of owner n xs ≡ records-of owner n ys)
+    → All (λ a. All (λ b. first a b ≡ true → first b a ≡ true → owner a ≡ owner b) ys) xs
+    → xs ≡ ys
 
 module _ {A S : Type 0} (M : Meaning A S) (good : S → Type 0) (R : Type 0) where
   -- A log in which two records in the wrong order never conflict replays the same, from the same state to the same last state, when it is sorted.

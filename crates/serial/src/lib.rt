@@ -1,7 +1,7 @@
 // Logs of records of actions, and the serial order of a log: what may change its place, or be taken back, without changing where the log leads.
 // Knows neither who asks for actions nor what they work on.
 ghost use Rattle.serial.specs.Actions.{Meaning, Keeps-good, Commutes, Restores};
-ghost use Rattle.serial.specs.Statements.{Sorting-sorts, Sorting-by-rank-sorts, Sorting-replays, Sorting-by-rank-replays, Low-ones-first-replays, Taking-back-replays};
+ghost use Rattle.serial.specs.Statements.{Sorting-sorts, Sorting-by-rank-sorts, One-serial-order, Sorting-replays, Sorting-by-rank-replays, Low-ones-first-replays, Taking-back-replays};
 
 // Actions on some states. The laws are asked in good states only: a set of states that performing does not leave.
 pub trait Actions {
@@ -28,6 +28,13 @@ pub fn sorting_sorts<R>() -> u8
 // Sorting by rank is a stable sort by rank.
 pub fn sorting_by_rank_sorts<R>() -> u8
     ensures { λ _. ⌜ Sorting-by-rank-sorts R ⌝ }
+{
+    0
+}
+
+// There is one serial order.
+pub fn serial_order_is_one<R>() -> u8
+    ensures { λ _. ⌜ One-serial-order R ⌝ }
 {
     0
 }
