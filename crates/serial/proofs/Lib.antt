@@ -1,0 +1,4 @@
+pub mod Sorting
+pub mod Unique
+pub mod Replaying
+pub mod Theorems

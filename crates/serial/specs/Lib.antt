@@ -1,0 +1,4 @@
+pub mod Sorts
+pub mod Replay
+pub mod Actions
+pub mod Statements
