@@ -1,0 +1,235 @@
+-- What a process has kept up to its last pivot stays. Assumes nothing.
+use mathlib.Core.Path.{_≡_, refl, sym, ap, subst, _∙_}
+use mathlib.Core.Bool.{Bool, true, false, not, cond, _&&_, _||_}
+use mathlib.Core.List.{List, [], _∷_, _++_, map, append-assoc, append-nil}
+use mathlib.Core.Logic.{_⊎_, inl, inr, ⊎-elim}
+use Prim.Native.Nat.{ℕ, zero, suc}
+use lib.Dec.{eqb}
+use Rattle.std.specs.declared.option.Option.{Option}
+use Rattle.std.specs.declared.option.Option.the-variants.{Some, None}
+use Rattle.std.specs.shelf.Lists.{kept-by}
+use Rattle.std.proofs.shelf.Tests.{eqb-true, eqb-false, eq-eqb, ne-eqb, cases-eq, true≢false, false≢true, or-parts, or-right, cases-bool}
+use Rattle.serial.specs.Sorts.{insert, sort}
+use Rattle.activity.specs.declared.Activity.{Activity}
+use Rattle.protocol.specs.declared.record.Record.{Record}
+use Rattle.protocol.specs.declared.answer.Refusal.{Refusal}
+use Rattle.protocol.specs.declared.standing.Standing.{Standing}
+use Rattle.protocol.specs.declared.standing.Standing.the-variants.{Running, Withdrawing, PastPivot}
+use Rattle.station.specs.Meaning.{Meaning}
+use Rattle.program.specs.Positions.{Position}
+use Rattle.protocol.specs.Ahead.{Next, nothing, plain, crossing, next}
+use Rattle.protocol.specs.Log.{any, Split, owned, own, rejoined, removed, loose, to-pivot, sealed}
+use Rattle.protocol.specs.Hall.{Process, Hall, find, least}
+use Rattle.protocol.specs.Rules.{performed}
+use Rattle.protocol.specs.Calls.{Call, outcome, ends}
+use Rattle.protocol.proofs.Cases.{cases}
+use Rattle.protocol.specs.Statements.{bare, Begins}
+use Rattle.protocol.proofs.Members.{In}
+use Rattle.protocol.proofs.Lasts.{NotOf, Loose, LooseIs, loose-is}
+
+-- beginnings of lists
+
+module _ {X : Type 0} where
+  pub begins-same : (xs : List X) → Begins xs xs
+  begins-same xs = ([], append-nil xs)
+
+  pub begins-more : (xs ys zs : List X) → Begins xs ys → Begins ys zs → Begins xs zs
+  begins-more xs ys zs (a, p) (b, q) = (a ++ b, sym (append-assoc xs a b) ∙ ap (λ l. l ++ b) p ∙ q)
+
+  map-append : {Y : Type 0} (f : X → Y) (xs ys : List X) → map f (xs ++ ys) ≡ map f xs ++ map f ys
+  map-append f [] ys = refl
+  map-append f (x ∷ xs) ys = ap (λ l. f x ∷ l) (map-append f xs ys)
+
+  pub begins-map : {Y : Type 0} (f : X → Y) (xs ys : List X) → Begins xs ys → Begins (map f xs) (map f ys)
+  begins-map f xs ys (a, p) = (map f a, sym (map-append f xs a) ∙ ap (map f) p)
+
+  begins-cons : (x : X) (xs ys : List X) → Begins xs ys → Begins (x ∷ xs) (x ∷ ys)
+  begins-cons x xs ys (a, p) = (a, ap (λ l. x ∷ l) p)
+
+  pub kept-append : (t : X → Bool) (xs ys : List X) → kept-by t (xs ++ ys) ≡ kept-by t xs ++ kept-by t ys
+  kept-append t [] ys = refl
+  kept-append t (x ∷ xs) ys = go (t x) (kept-append t xs ys)
+    where
+      go : (b : Bool) → kept-by t (xs ++ ys) ≡ kept-by t xs ++ kept-by t ys → cond b (x ∷ kept-by t (xs ++ ys)) (kept-by t (xs ++ ys)) ≡ cond b (x ∷ kept-by t xs) (kept-by t xs) ++ kept-by t ys
+      go true e = ap (λ l. x ∷ l) e
+      go false e = e
+
+pub pivot-begins : (xs : List Record) → Begins (to-pivot xs) xs
+pivot-begins [] = begins-same []
+pivot-begins (x ∷ xs) = go (x .pivot || any (λ r. r .pivot) xs) (pivot-begins xs)
+  where
+    go : (b : Bool) → Begins (to-pivot xs) xs → Begins (cond b (x ∷ to-pivot xs) []) (x ∷ xs)
+    go true e = begins-cons x (to-pivot xs) xs e
+    go false e = (x ∷ xs, refl)
+
+any-longer : (p : Record → Bool) (xs ys : List Record) → any p xs ≡ true → any p (xs ++ ys) ≡ true
+any-longer p [] ys e = absurd (false≢true e)
+any-longer p (x ∷ xs) ys e = go (p x) e (any-longer p xs ys)
+  where
+    go : (b : Bool) → (b || any p xs) ≡ true → (any p xs ≡ true → any p (xs ++ ys) ≡ true) → (b || any p (xs ++ ys)) ≡ true
+    go true f again = refl
+    go false f again = again f
+
+pub pivot-longer : (xs ys : List Record) → Begins (to-pivot xs) (to-pivot (xs ++ ys))
+pivot-longer [] ys = (to-pivot ys, refl)
+pivot-longer (x ∷ xs) ys = go (x .pivot) (any (λ r. r .pivot) xs) refl (pivot-longer xs ys)
+  where
+    go : (b c : Bool) → any (λ r. r .pivot) xs ≡ c → Begins (to-pivot xs) (to-pivot (xs ++ ys)) → Begins (cond (b || c) (x ∷ to-pivot xs) []) (cond (b || any (λ r. r .pivot) (xs ++ ys)) (x ∷ to-pivot (xs ++ ys)) [])
+    go true c e again = begins-cons x (to-pivot xs) (to-pivot (xs ++ ys)) again
+    go false true e again = subst (λ d. Begins (x ∷ to-pivot xs) (cond d (x ∷ to-pivot (xs ++ ys)) [])) (sym (any-longer (λ r. r .pivot) xs ys e)) (begins-cons x (to-pivot xs) (to-pivot (xs ++ ys)) again)
+    go false false e again = (cond (any (λ r. r .pivot) (xs ++ ys)) (x ∷ to-pivot (xs ++ ys)) [], refl)
+
+-- one more that is no pivot
+any-plain : (xs : List Record) (r : Record) → r .pivot ≡ false → any (λ x. x .pivot) (xs ++ r ∷ []) ≡ any (λ x. x .pivot) xs
+any-plain [] r e = ap (λ b. b || false) e
+any-plain (x ∷ xs) r e = ap (λ b. x .pivot || b) (any-plain xs r e)
+
+pub pivot-plain : (xs : List Record) (r : Record) → r .pivot ≡ false → to-pivot (xs ++ r ∷ []) ≡ to-pivot xs
+pivot-plain [] r e = ap (λ b. cond (b || false) (r ∷ []) []) e
+pivot-plain (x ∷ xs) r e = λ i. cond (x .pivot || any-plain xs r e i) (x ∷ pivot-plain xs r e i) []
+
+abbrev pub firm : ℕ → List Record → List Record
+firm n log = to-pivot (own n log)
+
+pub own-none : (n : ℕ) (xs : List Record) → NotOf n xs → own n xs ≡ []
+own-none n [] free = refl
+own-none n (x ∷ xs) free = ap (λ b. cond b (x ∷ own n xs) (own n xs)) (ne-eqb (x .start) n (free x (inl refl))) ∙ own-none n xs (λ y i. free y (inr i))
+
+-- how a log may change
+pub data Turn (log : List Record) : List Record → Type 0 where
+  stays : Turn log log
+  pushed : (r : Record) → Turn log (log ++ r ∷ [])
+  taken : (n : ℕ) (z : Split) → Loose n log z → Turn log (removed z)
+  seals : (n c : ℕ) → Turn log (map (sealed n c) log)
+
+abbrev pub Grows : List Record → List Record → Type 0
+Grows old new = (n : ℕ) → Begins (map bare (firm n old)) (map bare (firm n new))
+
+grows-taken : (m : ℕ) (log : List Record) (z : Split) → Loose m log z → (n : ℕ) → firm n log ≡ firm n (removed z)
+grows-taken m log z l n = ap (firm n) (l .last .whole) ∙ go (cases-eq m n)
+  where
+    go : (m ≡ n) ⊎ (m ≡ n → ⊥) → firm n (rejoined z) ≡ firm n (removed z)
+    go (inl e) =
+        let free : own n (z .after) ≡ [] = own-none n (z .after) (λ r i f. l .last .after r i (f ∙ sym e)) in
+        let mine : owned n (z .at) ≡ true = eq-eqb (z .at .start) n (l .last .owner ∙ e) in
+        ap to-pivot (kept-append (owned n) (z .before) (z .at ∷ z .after) ∙ ap (λ b. own n (z .before) ++ cond b (z .at ∷ own n (z .after)) (own n (z .after))) mine ∙ ap (λ t. own n (z .before) ++ z .at ∷ t) free)
+        ∙ pivot-plain (own n (z .before)) (z .at) (l .plain)
+        ∙ sym (ap to-pivot (kept-append (owned n) (z .before) (z .after) ∙ ap (λ t. own n (z .before) ++ t) free ∙ append-nil (own n (z .before))))
+    go (inr e) =
+        let other : owned n (z .at) ≡ false = ne-eqb (z .at .start) n (λ f. e (sym (l .last .owner) ∙ f)) in
+        ap to-pivot (kept-append (owned n) (z .before) (z .at ∷ z .after) ∙ ap (λ b. own n (z .before) ++ cond b (z .at ∷ own n (z .after)) (own n (z .after))) other ∙ sym (kept-append (owned n) (z .before) (z .after)))
+
+module _ (m c : ℕ) where
+  with-commit : Record → Record
+  with-commit r = record { start = r .start; activity = r .activity; answer = r .answer; commit = c; pivot = r .pivot }
+
+  sealed-owned : (n : ℕ) (r : Record) → owned n (sealed m c r) ≡ owned n r
+  unfolding with-commit
+  sealed-owned n r = go (owned m r)
+    where
+      go : (b : Bool) → owned n (cond b (with-commit r) r) ≡ owned n r
+      go true = refl
+      go false = refl
+
+  sealed-pivot : (r : Record) → sealed m c r .pivot ≡ r .pivot
+  unfolding with-commit
+  sealed-pivot r = go (owned m r)
+    where
+      go : (b : Bool) → cond b (with-commit r) r .pivot ≡ r .pivot
+      go true = refl
+      go false = refl
+
+  sealed-bare : (r : Record) → bare (sealed m c r) ≡ bare r
+  unfolding with-commit
+  sealed-bare r = go (owned m r)
+    where
+      go : (b : Bool) → bare (cond b (with-commit r) r) ≡ bare r
+      go true = refl
+      go false = refl
+
+  pub own-sealed : (n : ℕ) (xs : List Record) → own n (map (sealed m c) xs) ≡ map (sealed m c) (own n xs)
+  own-sealed n [] = refl
+  own-sealed n (x ∷ xs) = ap (λ b. cond b (sealed m c x ∷ own n (map (sealed m c) xs)) (own n (map (sealed m c) xs))) (sealed-owned n x) ∙ go (owned n x) (own-sealed n xs)
+    where
+      go : (b : Bool) → own n (map (sealed m c) xs) ≡ map (sealed m c) (own n xs) → cond b (sealed m c x ∷ own n (map (sealed m c) xs)) (own n (map (sealed m c) xs)) ≡ map (sealed m c) (cond b (x ∷ own n xs) (own n xs))
+      go true e = ap (λ l. sealed m c x ∷ l) e
+      go false e = e
+
+  any-sealed : (xs : List Record) → any (λ r. r .pivot) (map (sealed m c) xs) ≡ any (λ r. r .pivot) xs
+  any-sealed [] = refl
+  any-sealed (x ∷ xs) = λ i. sealed-pivot x i || any-sealed xs i
+
+  pub pivot-sealed : (xs : List Record) → map bare (to-pivot (map (sealed m c) xs)) ≡ map bare (to-pivot xs)
+  pivot-sealed [] = refl
+  pivot-sealed (x ∷ xs) = ap (λ b. map bare (cond b (sealed m c x ∷ to-pivot (map (sealed m c) xs)) [])) (λ i. sealed-pivot x i || any-sealed xs i) ∙ go (x .pivot || any (λ r. r .pivot) xs) (pivot-sealed xs)
+    where
+      go : (b : Bool) → map bare (to-pivot (map (sealed m c) xs)) ≡ map bare (to-pivot xs) → map bare (cond b (sealed m c x ∷ to-pivot (map (sealed m c) xs)) []) ≡ map bare (cond b (x ∷ to-pivot xs) [])
+      go true e = λ i. sealed-bare x i ∷ e i
+      go false e = refl
+
+pub grows : {old new : List Record} → Turn old new → Grows old new
+grows {old} stays n = begins-same (map bare (firm n old))
+grows {old} (pushed r) n = begins-map bare (firm n old) (firm n (old ++ r ∷ [])) (subst (λ l. Begins (firm n old) (to-pivot l)) (sym (kept-append (owned n) old (r ∷ []))) (pivot-longer (own n old) (own n (r ∷ []))))
+grows {old} (taken m z l) n = subst (λ x. Begins (map bare (firm n old)) (map bare x)) (grows-taken m old z l n) (begins-same (map bare (firm n old)))
+grows {old} (seals m c) n = subst (λ x. Begins (map bare (firm n old)) x) (sym (ap (λ l. map bare (to-pivot l)) (own-sealed m c n old) ∙ pivot-sealed m c (own n old))) (begins-same (map bare (firm n old)))
+
+-- each call turns the log so
+
+module _ {S : Type 0} (M : Meaning S) where
+  pushes : (h : Hall S) (p : Process) (pivot : Bool) (a : Activity) (to : Position) (o : Option (ℕ × S)) → Turn (h .log) (performed h p pivot a to o .hall .log)
+  pushes h p pivot a to None = stays
+  pushes h p pivot a to (Some d) = pushed record { start = p .start; activity = a; answer = d .0; commit = 0; pivot = pivot }
+
+  pub turns : (h : Hall S) (c : Call) → Turn (h .log) (outcome M h c .hall .log)
+  turns h = cases M h (λ c o. Turn (h .log) (o .hall .log)) record {
+    refused = λ c r. stays;
+    waited = λ p is told n. stays;
+    loads = λ k b e. stays;
+    opens = λ k e. stays;
+    cancels = λ p is e. stays;
+    steps = λ p is g a to n free o e. pushes h p false a to o;
+    crosses = λ p is g a to n alone free o e. pushes h p true a to o;
+    commits = λ p is g n free. seals (p .start) (suc (h .committed));
+    takes-back = λ p is b z l free. taken (p .start) z (subst (LooseIs (p .start) (h .log)) l (loose-is (p .start) (h .log)));
+    restarts = λ p is e none. stays;
+    leaves = λ p is e none. stays;
+    turns = λ p is e none. stays;
+  }
+
+  pub grows-ends : (h : Hall S) (cs : List Call) → Grows (h .log) (ends M h cs .log)
+  grows-ends h [] n = begins-same (map bare (firm n (h .log)))
+  grows-ends h (c ∷ cs) n = begins-more (map bare (firm n (h .log))) (map bare (firm n (outcome M h c .hall .log))) (map bare (firm n (ends M (outcome M h c .hall) cs .log))) (grows (turns h c) n) (grows-ends (outcome M h c .hall) cs n)
+
+-- sorting keeps each process's records in their order
+
+in-insert : (first : Record → Record → Bool) (x r : Record) (xs : List Record) → In x (insert first r xs) → (x ≡ r) ⊎ In x xs
+in-insert first x r [] i = i
+in-insert first x r (y ∷ ys) i = go (first r y) i (in-insert first x r ys)
+  where
+    go : (b : Bool) → In x (cond b (r ∷ y ∷ ys) (y ∷ insert first r ys)) → (In x (insert first r ys) → (x ≡ r) ⊎ In x ys) → (x ≡ r) ⊎ In x (y ∷ ys)
+    go true j again = j
+    go false (inl e) again = inr (inl e)
+    go false (inr j) again = ⊎-elim inl (λ k. inr (inr k)) (again j)
+
+in-sort : (first : Record → Record → Bool) (x : Record) (xs : List Record) → In x (sort first xs) → In x xs
+in-sort first x [] i = i
+in-sort first x (y ∷ ys) i = ⊎-elim inl (λ j. inr (in-sort first x ys j)) (in-insert first x y (sort first ys) i)
+
+own-insert : (n : ℕ) (first : Record → Record → Bool) (r : Record) (xs : List Record) → ((x : Record) → In x xs → r .start ≡ x .start → first r x ≡ true) → own n (insert first r xs) ≡ own n (r ∷ xs)
+own-insert n first r [] kin = refl
+own-insert n first r (x ∷ xs) kin = go (first r x) refl (own-insert n first r xs (λ y i. kin y (inr i)))
+  where
+    apart : (b c : Bool) → owned n r ≡ b → owned n x ≡ c → first r x ≡ false → cond c (x ∷ cond b (r ∷ own n xs) (own n xs)) (cond b (r ∷ own n xs) (own n xs)) ≡ cond b (r ∷ cond c (x ∷ own n xs) (own n xs)) (cond c (x ∷ own n xs) (own n xs))
+    apart true true p q f = absurd (true≢false (sym (kin x (inl refl) (eqb-true (r .start) n p ∙ sym (eqb-true (x .start) n q))) ∙ f))
+    apart true false p q f = refl
+    apart false c p q f = refl
+
+    go : (b : Bool) → first r x ≡ b → own n (insert first r xs) ≡ own n (r ∷ xs) → own n (cond b (r ∷ x ∷ xs) (x ∷ insert first r xs)) ≡ own n (r ∷ x ∷ xs)
+    go true f again = refl
+    go false f again = ap (λ l. cond (owned n x) (x ∷ l) l) again ∙ apart (owned n r) (owned n x) refl refl f
+
+pub own-sort : (n : ℕ) (first : Record → Record → Bool) (xs : List Record) → ((a b : Record) → In a xs → In b xs → a .start ≡ b .start → first a b ≡ true) → own n (sort first xs) ≡ own n xs
+own-sort n first [] kin = refl
+own-sort n first (x ∷ xs) kin =
+    own-insert n first x (sort first xs) (λ y i e. kin x y (inl refl) (inr (in-sort first y xs i)) e)
+    ∙ ap (λ l. cond (owned n x) (x ∷ l) l) (own-sort n first xs (λ a b i j. kin a b (inr i) (inr j)))

@@ -1,0 +1,199 @@
+-- What each call comes to. Assumes nothing.
+use mathlib.Core.Bool.{Bool, true, false, not, cond, _&&_, _||_}
+use mathlib.Core.List.{List, [], _∷_, _++_, map}
+use Prim.Native.Nat.{ℕ, suc, _+_, _*_}
+use lib.Dec.{eqb, ltb, leb}
+use lib.ListN.{length, getD, set}
+use Rattle.std.specs.declared.option.Option.{Option}
+use Rattle.std.specs.declared.option.Option.the-variants.{Some, None}
+use Rattle.std.specs.Options.{isSome}
+use Rattle.std.specs.shelf.Lists.{kept-by}
+use Rattle.protocol.specs.Options.{when}
+use Rattle.activity.specs.declared.Activity.{Activity}
+use Rattle.protocol.specs.declared.record.Record.{Record}
+use Rattle.protocol.specs.declared.scan.Request.{Request}
+use Rattle.protocol.specs.declared.standing.Standing.{Standing}
+use Rattle.protocol.specs.declared.standing.Aim.the-variants.{End}
+use Rattle.protocol.specs.declared.standing.Standing.the-variants.{Running, Withdrawing, PastPivot}
+use Rattle.protocol.specs.declared.answer.Turn.{Turn}
+use Rattle.protocol.specs.declared.answer.Turn.the-variants as turns
+use Rattle.protocol.specs.declared.answer.Answer.{Answer}
+use Rattle.protocol.specs.declared.answer.Answer.the-variants.{Loaded, Opened, Cancelled, Stepped, Refused}
+use Rattle.protocol.specs.declared.answer.Refusal.{Refusal}
+use Rattle.protocol.specs.declared.answer.Refusal.the-variants.{NoPlace, Busy, NoActivity, WrongKind, NotLoaded, Full, NoNumber, NoRoom, NoProcess, IsPastPivot, IsWithdrawing, LongList, UnknownKind}
+use Rattle.station.specs.Meaning.{Meaning}
+use Rattle.program.specs.Grammar.{Body, body-steps}
+use Rattle.program.specs.declared.command.Kind.{Kind}
+use Rattle.program.specs.declared.command.Kind.the-variants.{Compensatable, Pivot, Retriable}
+use Rattle.program.specs.declared.command.Step.{Step}
+use Rattle.protocol.specs.Log.{any}
+use Rattle.protocol.specs.Hall.{Process, Hall, find, changed, stand, with-processes, beginning}
+use Rattle.protocol.specs.Rules.{Outcome, answered, step-of}
+
+pub data Call : Type 0 where
+  loading : ℕ → Body → Call
+  opening : ℕ → Call
+  stepping : ℕ → Call
+  cancelling : ℕ → Call
+
+-- the first objection
+abbrev pub else : {X : Type 0} → Option X → Option X → Option X
+else None o = o
+else (Some x) o = Some x
+
+abbrev pub fits : {S : Type 0} → Meaning S → Kind → ℕ → Bool
+fits M Compensatable a = M .compensatable a
+fits M Pivot a = not (M .compensatable a)
+fits M Retriable a = M .retriable a
+
+abbrev pub fault : {S : Type 0} → Meaning S → ℕ → Step → Option Refusal
+fault M i s = else (when (leb (M .activities) (s .activity .number)) (NoActivity i)) (when (not (fits M (s .kind) (s .activity .number))) (WrongKind i))
+
+abbrev pub faults : {S : Type 0} → Meaning S → ℕ → List Step → Option Refusal
+faults M i [] = None
+faults M i (s ∷ ss) = else (fault M i s) (faults M (suc i) ss)
+
+abbrev pub committed-records : List Record → List Record
+committed-records log = kept-by (λ r. not (eqb (r .commit) 0)) log
+
+module _ {S : Type 0} where
+  abbrev pub refused-or : Hall S → Option Refusal → Outcome S → Outcome S
+  refused-or h None on = on
+  refused-or h (Some r) on = answered h (Refused r)
+
+  abbrev pub against-load : Meaning S → Hall S → ℕ → Body → Option Refusal
+  against-load M h k b = else (when (ltb 7 k) NoPlace) (else (when (any (λ q. eqb (q .place) k) (h .processes)) Busy) (faults M 0 (body-steps b)))
+
+  abbrev pub loaded : Hall S → ℕ → Body → Outcome S
+  loaded h k b = answered record { station = h .station; log = h .log; processes = h .processes; programs = set (h .programs) k (Some b); given = h .given; committed = h .committed } Loaded
+
+  abbrev pub against-open : Hall S → ℕ → Option Refusal
+  against-open h k =
+      else (when (ltb 7 k) NoPlace)
+      (else (when (not (isSome (getD (h .programs) k None))) NotLoaded)
+      (else (when (leb 16 (length (h .processes))) Full)
+      (else (when (leb 65535 (h .given)) NoNumber)
+      (when (ltb 1024 (length (committed-records (h .log)) + 32 * (length (h .processes) + 1))) NoRoom))))
+
+  abbrev pub opened : Hall S → ℕ → Outcome S
+  opened h k =
+      answered
+      record { station = h .station; log = h .log; processes = h .processes ++ record { start = suc (h .given); place = k; standing = Running; at = beginning (h .programs) k } ∷ []; programs = h .programs; given = suc (h .given); committed = h .committed }
+      (Opened (suc (h .given)))
+
+  abbrev pub cancel-by : Hall S → Process → Standing → Outcome S
+  cancel-by h p Running = answered (with-processes h (changed (p .start) (stand (Withdrawing End)) (h .processes))) Cancelled
+  cancel-by h p (Withdrawing restart) = answered h (Refused IsWithdrawing)
+  cancel-by h p (PastPivot back) = answered h (Refused IsPastPivot)
+
+  abbrev pub cancel-of : Hall S → Option Process → Outcome S
+  cancel-of h None = answered h (Refused NoProcess)
+  cancel-of h (Some p) = cancel-by h p (p .standing)
+
+  abbrev pub outcome : Meaning S → Hall S → Call → Outcome S
+  outcome M h (loading k b) = refused-or h (against-load M h k b) (loaded h k b)
+  outcome M h (opening k) = refused-or h (against-open h k) (opened h k)
+  outcome M h (stepping n) = step-of M h (find n (h .processes))
+  outcome M h (cancelling n) = cancel-of h (find n (h .processes))
+
+  -- the hall after a list of calls, and what was answered
+  abbrev pub ends : Meaning S → Hall S → List Call → Hall S
+  ends M h [] = h
+  ends M h (c ∷ cs) = ends M (outcome M h c .hall) cs
+
+  abbrev pub replies : Meaning S → Hall S → List Call → List Answer
+  replies M h [] = []
+  replies M h (c ∷ cs) = outcome M h c .answer ∷ replies M (outcome M h c .hall) cs
+
+-- scan lists: each record is one call
+
+abbrev pub call-of : Request → Option Call
+call-of r = else (when (eqb (r .kind) 79) (opening (r .operand))) (else (when (eqb (r .kind) 83) (stepping (r .operand))) (when (eqb (r .kind) 88) (cancelling (r .operand))))
+
+abbrev pub and-call : Option Call → List Call → List Call
+and-call None cs = cs
+and-call (Some c) cs = c ∷ cs
+
+abbrev pub calls-of : List Request → List Call
+calls-of [] = []
+calls-of (r ∷ rs) = and-call (call-of r) (calls-of rs)
+
+abbrev pub code : Refusal → ℕ
+code NoPlace = 7
+code Busy = 8
+code (NoActivity i) = 9
+code (WrongKind i) = 10
+code NotLoaded = 11
+code Full = 12
+code NoNumber = 13
+code NoRoom = 14
+code NoProcess = 15
+code IsPastPivot = 16
+code IsWithdrawing = 17
+code LongList = 18
+code UnknownKind = 19
+
+abbrev pub write : Request → ℕ → ℕ → Request
+write r l n = record { kind = r .kind; operand = r .operand; letter = l; number = n }
+
+abbrev pub write-turn : Request → Turn → Request
+write-turn r (turns.Done x) = write r 68 x
+write-turn r turns.Failed = write r 70 0
+write-turn r (turns.Wait n) = write r 87 n
+write-turn r (turns.Undone a) = write r 85 a
+write-turn r turns.Restarted = write r 65 0
+write-turn r turns.Gone = write r 71 0
+write-turn r (turns.Next k) = write r 78 k
+write-turn r (turns.Committed c) = write r 75 c
+
+abbrev pub written : Request → Answer → Request
+written r Loaded = r
+written r (Opened n) = write r 79 n
+written r Cancelled = write r 88 0
+written r (Stepped t) = write-turn r t
+written r (Refused f) = write r 33 (code f)
+
+-- a scan list: the hall, and the records with their answers
+pub record Scan (S : Type 0) : Type 0 where
+  pub hall : Hall S
+  pub records : List Request
+
+module _ {S : Type 0} where
+  abbrev pub one : Meaning S → Hall S → Option Call → Outcome S
+  one M h None = answered h (Refused UnknownKind)
+  one M h (Some c) = outcome M h c
+
+  abbrev pub behind : Request → Scan S → Scan S
+  behind r s = record { hall = s .hall; records = r ∷ s .records }
+
+  -- worked from the first to the last, each record answered in its own last two fields
+  abbrev pub scanned : Meaning S → Hall S → List Request → Scan S
+  scanned M h [] = record { hall = h; records = [] }
+  scanned M h (r ∷ rs) = behind (written r (one M h (call-of r) .answer)) (scanned M (one M h (call-of r) .hall) rs)
+
+  -- over 64 records: refused, and nothing is written
+  abbrev pub scan-outcome : Meaning S → Hall S → List Request → Scan S
+  scan-outcome M h rs = cond (ltb 64 (length rs)) record { hall = h; records = rs } (scanned M h rs)
+
+-- what may come in: a call, or a scan list
+pub data Event : Type 0 where
+  call : Call → Event
+  scan : List Request → Event
+
+-- the calls that it comes to; a scan list that is too long comes to none
+abbrev pub singles : Event → List Call
+singles (call c) = c ∷ []
+singles (scan rs) = cond (ltb 64 (length rs)) [] (calls-of rs)
+
+abbrev pub all-singles : List Event → List Call
+all-singles [] = []
+all-singles (e ∷ es) = singles e ++ all-singles es
+
+module _ {S : Type 0} where
+  abbrev pub after : Meaning S → Hall S → Event → Hall S
+  after M h (call c) = outcome M h c .hall
+  after M h (scan rs) = scan-outcome M h rs .hall
+
+  abbrev pub after-all : Meaning S → Hall S → List Event → Hall S
+  after-all M h [] = h
+  after-all M h (e ∷ es) = after-all M (after M h e) es

@@ -1,0 +1,12 @@
+pub mod Options
+pub mod Means
+pub mod Ahead
+pub mod Log
+pub mod Hall
+pub mod Rules
+pub mod Calls
+pub mod Book
+pub mod Statements
+pub mod Relation
+pub mod Room
+pub mod Held

@@ -1,0 +1,33 @@
+-- That the log has room. Assumes nothing.
+use mathlib.Core.List.{List}
+use Prim.Native.Nat.{ℕ, _+_, _≤_, _<_}
+use lib.ListN.{length}
+use Rattle.std.specs.shelf.Lists.{All}
+use Rattle.serial.specs.Sorts.{Pairwise}
+use Rattle.station.specs.Meaning.{Meaning}
+use Rattle.program.specs.Grammar.{body-steps}
+use Rattle.protocol.specs.Hall.{Hall}
+use Rattle.protocol.specs.Calls.{Call, loading, opening, stepping, cancelling, Event, all-singles}
+use Rattle.protocol.specs.Statements.{hall-after}
+
+-- a program that was read has at most 32 steps
+abbrev pub Read : Call → Type 0
+Read (loading k b) = length (body-steps b) ≤ 32
+Read (opening k) = Unit {0}
+Read (stepping n) = Unit {0}
+Read (cancelling n) = Unit {0}
+
+-- there are never more than 1,024 records
+abbrev pub HasRoom : {S : Type 0} → Meaning S → Type 0
+HasRoom {S} M = (s : S) (es : List Event) → All Read (all-singles es) → length (hall-after M s es .log) ≤ 1024
+
+-- numbers and tables stay within their bounds, and start numbers rise along the table
+pub record Bounded {S : Type 0} (h : Hall S) : Type 0 where
+  pub given : h .given ≤ 65535
+  pub active : length (h .processes) ≤ 16
+  pub committed : h .committed + length (h .processes) ≤ h .given
+  pub rising : Pairwise (λ a b. a .start < b .start) (h .processes)
+  pub starts : All (λ q. q .start ≤ h .given) (h .processes)
+
+abbrev pub StaysBounded : {S : Type 0} → Meaning S → Type 0
+StaysBounded {S} M = (s : S) (es : List Event) → Bounded (hall-after M s es)

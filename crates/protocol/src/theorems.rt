@@ -1,0 +1,40 @@
+// The theorems about halls, each on a function's contract, over every station.
+ghost use Rattle.protocol.specs.Statements.{Agrees, Stays};
+ghost use Rattle.protocol.specs.Relation.{StepsExactly};
+ghost use Rattle.protocol.specs.Room.{HasRoom, StaysBounded};
+use station::Station;
+
+// The hall's run and the orderly run agree.
+pub fn runs_agree<S: Station>() -> u8
+    ensures { λ _. ⌜ Agrees (S·Station .meaning) ⌝ }
+{
+    0
+}
+
+// What is kept up to a pivot stays.
+pub fn pivots_stay<S: Station>() -> u8
+    ensures { λ _. ⌜ Stays (S·Station .meaning) ⌝ }
+{
+    0
+}
+
+// A step comes to just one of the things that the rules allow.
+pub fn steps_exact<S: Station>() -> u8
+    ensures { λ _. ⌜ StepsExactly (S·Station .meaning) ⌝ }
+{
+    0
+}
+
+// The log has room for every step.
+pub fn room_stays<S: Station>() -> u8
+    ensures { λ _. ⌜ HasRoom (S·Station .meaning) ⌝ }
+{
+    0
+}
+
+// Numbers and tables stay within their bounds.
+pub fn bounds_stay<S: Station>() -> u8
+    ensures { λ _. ⌜ StaysBounded (S·Station .meaning) ⌝ }
+{
+    0
+}
