@@ -2,3 +2,4 @@ pub mod Sorting
 pub mod Unique
 pub mod Replaying
 pub mod Theorems
+mod Account

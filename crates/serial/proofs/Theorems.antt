@@ -40,7 +40,7 @@ module _ {A S : Type 0} (M : Meaning A S) (good : S → Type 0) (closed : Keeps-
   pub taking-back-replays : Restores M good → Taking-back-replays M good R
   taking-back-replays restores action answer xs r ys s t start compensatable free replay =
       let (u, back, rest) =
-          take-back (Performs M action answer) good (closed-records action answer) (λ a b. M .conflict (action a) (action b)) (swap-records action answer)
-          r (λ t u. M .undone (action r) (answer r) t ≡ u) (λ u t fine did. restores (action r) (answer r) u t fine compensatable did)
-          xs ys s t start free replay in
+      take-back (Performs M action answer) good (closed-records action answer) (λ a b. M .conflict (action a) (action b)) (swap-records action answer)
+      r (λ t u. M .undone (action r) (answer r) t ≡ u) (λ u t fine did. restores (action r) (answer r) u t fine compensatable did)
+      xs ys s t start free replay in
       subst (λ v. Replays (Performs M action answer) (xs ++ ys) s v) (sym back) rest

@@ -2,3 +2,4 @@ pub mod Sorts
 pub mod Replay
 pub mod Actions
 pub mod Statements
+pub mod Worked

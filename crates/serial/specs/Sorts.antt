@@ -12,7 +12,9 @@ abbrev pub Pairwise : {R : Type 0} → (R → R → Type 0) → List R → Type 
 Pairwise P [] = Unit {0}
 Pairwise P (x ∷ xs) = All (P x) xs × Pairwise P xs
 
--- A comparison says of two records whether the one may stand before the other. Where it says so both ways, they tie.
+-- ---- comparisons
+-- A comparison is any test `first a b`, read: a may stand before b. Two records that may each stand before the other tie.
+
 -- of any two, one may stand before the other
 abbrev pub Total : {R : Type 0} → (R → R → Bool) → Type 0
 Total {R} first = (a b : R) → first a b ≡ false → first b a ≡ true
@@ -24,12 +26,13 @@ Transitive {R} first = (a b c : R) → first a b ≡ true → first b c ≡ true
 abbrev pub Sorted : {R : Type 0} → (R → R → Bool) → List R → Type 0
 Sorted first log = Pairwise (λ a b. first a b ≡ true) log
 
+-- ---- sorting
 -- r goes before the first record that it may stand before
 abbrev pub insert : {R : Type 0} → (R → R → Bool) → R → List R → List R
 insert first r [] = r ∷ []
 insert first r (x ∷ xs) = cond (first r x) (r ∷ x ∷ xs) (x ∷ insert first r xs)
 
--- insertion sort
+-- insertion sort: from the last record back, each is inserted among those after it, and so does not go past one that it ties with
 abbrev pub sort : {R : Type 0} → (R → R → Bool) → List R → List R
 sort first [] = []
 sort first (r ∷ rs) = insert first r (sort first rs)
@@ -42,16 +45,17 @@ by-rank rank a b = leb (rank a) (rank b)
 abbrev pub low-first : {R : Type 0} → (R → Bool) → R → R → Bool
 low-first low a b = low a || not (low b)
 
--- the records of an owner, in the order of the log
+-- ---- what a sort is
+-- the records of an owner, or of a rank, in the order of the log
 abbrev pub records-of : {R : Type 0} → (R → ℕ) → ℕ → List R → List R
 records-of owner n log = kept-by (λ r. eqb (owner r) n) log
 
--- `serial` is `log` in an order that the comparison allows
+-- `serial` is `log`, stably sorted by a comparison
 pub record Stable-sort {R : Type 0} (first : R → R → Bool) (log serial : List R) : Type 0 where
   -- the same records: exchanges of two places lead from the one list to the other
   pub permuted : Shuffled log serial
   pub sorted : Total first → Transitive first → Sorted first serial
-  -- records among which each may stand before those after it, as the records of one owner, stay in their order
+  -- Records that pass a test, as being one owner's, stay in their order where each of them may stand before those after it.
   pub stable : (p : R → Bool) → Pairwise (λ a b. p a ≡ true → p b ≡ true → first a b ≡ true) log → kept-by p serial ≡ kept-by p log
 
 -- the same, by rank

@@ -1,4 +1,4 @@
--- The theorems, over any actions A on states S, and any records R. A record has an action and an answer; the state in which the log begins is good.
+-- The theorems, over any records R, and any actions A on states S. Each record has an action and an answer.
 use mathlib.Core.Path.{_≡_}
 use mathlib.Core.Bool.{Bool, true, false, not}
 use mathlib.Core.List.{List, [], _∷_, _++_}
@@ -15,7 +15,8 @@ Sorting-sorts R = (first : R → R → Bool) (log : List R) → Stable-sort firs
 abbrev pub Sorting-by-rank-sorts : Type 0 → Type 0
 Sorting-by-rank-sorts R = (rank : R → ℕ) (log : List R) → Stable-sort-by-rank rank log (sort (by-rank rank) log)
 
--- There is one serial order: where only records of one owner tie, two sorted logs that have each owner's records in the same order are the same.
+-- There is one serial order: where only records of one owner tie, two sorted logs that have each owner's records in the same
+-- order are the same.
 abbrev pub One-serial-order : Type 0 → Type 0
 One-serial-order R =
     (first : R → R → Bool) (owner : R → ℕ) (xs ys : List R)
@@ -25,8 +26,10 @@ One-serial-order R =
     → All (λ a. All (λ b. first a b ≡ true → first b a ≡ true → owner a ≡ owner b) ys) xs
     → xs ≡ ys
 
+-- The state in which a log begins is good in the following. So are all that it passes through, in either order.
 module _ {A S : Type 0} (M : Meaning A S) (good : S → Type 0) (R : Type 0) where
-  -- A log in which two records in the wrong order never conflict replays the same, from the same state to the same last state, when it is sorted.
+  -- A log in which two records in the wrong order never conflict replays the same when it is sorted: from the same state to the same
+  -- last state, each record possible and with its answer.
   abbrev pub Sorting-replays : Type 0
   Sorting-replays =
       (action : R → A) (answer : R → ℕ) (first : R → R → Bool) (log : List R) (s t : S)
@@ -52,7 +55,8 @@ module _ {A S : Type 0} (M : Meaning A S) (good : S → Type 0) (R : Type 0) whe
       → Replays (Performs M action answer) log s t
       → Replays (Performs M action answer) (kept-by low log ++ kept-by (λ r. not (low r)) log) s t
 
-  -- A record whose action is compensatable and conflicts with none after it is taken back from the last state: this gives the last state of the log without it, which replays.
+  -- A record whose action is compensatable and conflicts with none after it can be taken back from the last state of the log: this
+  -- gives the last state of the log without the record, which replays.
   abbrev pub Taking-back-replays : Type 0
   Taking-back-replays =
       (action : R → A) (answer : R → ℕ) (xs : List R) (r : R) (ys : List R) (s t : S)

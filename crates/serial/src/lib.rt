@@ -1,6 +1,7 @@
 // Logs of records of actions, and the serial order of a log: what may change its place, or be taken back, without changing where the log leads.
 // Knows neither who asks for actions nor what they work on.
 ghost use Rattle.serial.specs.Actions.{Meaning, Keeps-good, Commutes, Restores};
+ghost use Rattle.serial.specs.Worked.{Worked-account};
 ghost use Rattle.serial.specs.Statements.{Sorting-sorts, Sorting-by-rank-sorts, One-serial-order, Sorting-replays, Sorting-by-rank-replays, Low-ones-first-replays, Taking-back-replays};
 
 // Actions on some states. The laws are asked in good states only: a set of states that performing does not leave.
@@ -63,6 +64,13 @@ pub fn low_ones_first_replays<A: Actions, R>() -> u8
 // A record that conflicts with nothing after it can be taken back.
 pub fn taking_back_replays<A: Actions, R>() -> u8
     ensures { λ _. ⌜ Taking-back-replays (A·Actions .means) (A·Actions .good) R ⌝ }
+{
+    0
+}
+
+// An account worked through: the laws can be met, and the theorems' premises are needed.
+pub fn worked_account() -> u8
+    ensures { λ _. ⌜ Worked-account ⌝ }
 {
     0
 }
