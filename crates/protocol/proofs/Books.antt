@@ -27,7 +27,7 @@ use Rattle.protocol.specs.Ahead.{Next, nothing, plain, crossing, next}
 use Rattle.protocol.specs.Log.{Split, owned, removed, dropped, last-of, loose, unless-pivot, sealed, pivoted}
 use Rattle.protocol.specs.Hall.{Process, Hall, fresh, find, without, change, changed, stand, move, with-processes, least, beginning, running, past-pivot}
 use Rattle.protocol.specs.Rules.{marked, Outcome, answered, performed, restarted, gone, turning, undone, committing, failed, led}
-use Rattle.protocol.specs.Calls.{Call, loading, opening, stepping, cancelling, outcome, ends, replies}
+use Rattle.protocol.specs.Calls.{Call, loading, installing, opening, stepping, cancelling, outcome, ends, replies}
 use Rattle.protocol.proofs.Cases.{cases}
 use Rattle.protocol.specs.Book.{Entry, Book, empty, seek, struck, at-now, moved, with-entries, keep, keep-next, on-turn, on-step, noted, fed}
 use Rattle.protocol.proofs.Members.{In}
@@ -124,6 +124,7 @@ module _ {S : Type 0} (M : Meaning S) (laws : Laws M) (s : S) where
     refused = refused;
     waited = λ p is told n. on-its h p is (answered (with-processes h (map (marked told) (h .processes))) (Stepped (turns.Wait n))) (ap (with-entries (view h)) (told-entries told (h .processes)));
     loads = λ k b e. refl;
+    installs = λ k t b e. refl;
     opens = λ k e. ap (with-entries (view h)) (pushed-is (h .processes) record { start = suc (h .given); place = k; standing = Running; at = beginning (h .programs) k });
     cancels = λ p is e. ap (with-entries (view h)) (stood (p .start) (Withdrawing End) (h .processes));
     steps = λ p is g a to n free o e. on-its h p is (performed h p false a to o) (noted-performed h p false a to (λ x. ap (keep-next (view h) (p .start) x) n) o);
@@ -137,6 +138,7 @@ module _ {S : Type 0} (M : Meaning S) (laws : Laws M) (s : S) where
     where
       refused : (c : Call) (r : Refusal) → Noted h c (answered h (Refused r))
       refused (loading k b) r = refl
+      refused (installing k t b o) r = refl
       refused (opening k) r = refl
       refused (stepping n) r = go (seek n (map entry-of (h .processes)))
         where

@@ -8,7 +8,7 @@ use Rattle.std.specs.declared.option.Option.{Option}
 use Rattle.std.specs.declared.option.Option.the-variants.{Some, None}
 use Rattle.activity.specs.declared.Activity.{Activity}
 use Rattle.protocol.specs.declared.answer.Refusal.{Refusal}
-use Rattle.protocol.specs.declared.answer.Refusal.the-variants.{NoProcess, IsPastPivot, IsWithdrawing}
+use Rattle.protocol.specs.declared.answer.Refusal.the-variants.{BadText, NoProcess, IsPastPivot, IsWithdrawing}
 use Rattle.protocol.specs.declared.standing.Aim.{Aim}
 use Rattle.protocol.specs.declared.standing.Standing.{Standing}
 use Rattle.protocol.specs.declared.standing.Aim.the-variants.{Restart, End}
@@ -23,7 +23,7 @@ use Rattle.protocol.specs.Ahead.{Next, nothing, plain, crossing, next}
 use Rattle.protocol.specs.Log.{Split, loose}
 use Rattle.protocol.specs.Hall.{Process, Hall, find, least, with-processes, changed, stand}
 use Rattle.protocol.specs.Rules.{blocks-back, blocks-plain, blocks-pivot, blocks-alone, blocks-commit, everybody, nobody, pivot-marks, marked, Outcome, answered, waits, unless-blocked, performed, restarted, gone, turning, undone, committing, backward, forward, by-standing, step-of}
-use Rattle.protocol.specs.Calls.{Call, loading, opening, stepping, cancelling, refused-or, against-load, against-open, loaded, opened, cancel-by, cancel-of, outcome}
+use Rattle.protocol.specs.Calls.{Call, loading, installing, opening, stepping, cancelling, refused-or, against-load, against-open, loaded, opened, cancel-by, cancel-of, outcome}
 use Rattle.protocol.proofs.Finds.{found-start, nobody-passes}
 
 module _ {S : Type 0} (M : Meaning S) (h : Hall S) where
@@ -45,6 +45,7 @@ module _ {S : Type 0} (M : Meaning S) (h : Hall S) where
     pub refused : (c : Call) (r : Refusal) → P c (answered h (Refused r))
     pub waited : (p : Process) → Here p → (told : Process → Bool) (n : ℕ) → P (stepping (p .start)) (answered (with-processes h (map (marked told) (h .processes))) (Stepped (Wait n)))
     pub loads : (k : ℕ) (b : Body) → against-load M h k b ≡ None → P (loading k b) (loaded h k b)
+    pub installs : (k : ℕ) (t : List ℕ) (b : Body) → against-load M h k b ≡ None → P (installing k t b None) (loaded h k b)
     pub opens : (k : ℕ) → against-open h k ≡ None → P (opening k) (opened h k)
     pub cancels : (p : Process) → Here p → p .standing ≡ Running → P (cancelling (p .start)) (answered (with-processes h (changed (p .start) (stand (Withdrawing End)) (h .processes))) Cancelled)
     pub steps : (p : Process) → Here p → Going p → (a : Activity) (to : Position) → next (p .at) ≡ plain a to → Passes (blocks-plain (M .conflict) (h .log) p a) → (o : Option (ℕ × S)) → M .performed (h .station) a ≡ o → P (stepping (p .start)) (performed h p false a to o)
@@ -96,6 +97,12 @@ module _ {S : Type 0} (M : Meaning S) (h : Hall S) where
         go : (o : Option Refusal) → against-load M h k b ≡ o → P (loading k b) (refused-or h o (loaded h k b))
         go None e = all .loads k b e
         go (Some r) e = all .refused (loading k b) r
+    cases (installing k t b None) = go (against-load M h k b) refl
+      where
+        go : (o : Option Refusal) → against-load M h k b ≡ o → P (installing k t b None) (refused-or h o (loaded h k b))
+        go None e = all .installs k t b e
+        go (Some r) e = all .refused (installing k t b None) r
+    cases (installing k t b (Some e)) = all .refused (installing k t b (Some e)) (BadText e)
     cases (opening k) = go (against-open h k) refl
       where
         go : (o : Option Refusal) → against-open h k ≡ o → P (opening k) (refused-or h o (opened h k))

@@ -185,6 +185,7 @@ module _ {S : Type 0} (M : Meaning S) where
     refused = λ c r. stays;
     waited = λ p is told n. stays;
     loads = λ k b e. stays;
+    installs = λ k t b e. stays;
     opens = λ k e. stays;
     cancels = λ p is e. stays;
     steps = λ p is g a to n free o e. pushes h p false a to o;

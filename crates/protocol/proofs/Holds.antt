@@ -28,7 +28,7 @@ use Rattle.protocol.specs.Log.{Split, owned, own, rejoined, removed, loose, pi
 use Rattle.protocol.specs.Hall.{Process, Hall, fresh, find, without, changed, stand, move, with-processes, past-pivot, running, beginning}
 use Rattle.protocol.specs.Rules.{marked, performed, failed, led, record-of}
 use Rattle.protocol.specs.Calls.{Call, outcome}
-use Rattle.protocol.specs.Room.{Read, Bounded}
+use Rattle.protocol.specs.Room.{Genuine, Bounded}
 use Rattle.protocol.specs.Held.{Held, Rooms, Roomy}
 use Rattle.protocol.proofs.Cases.{cases, Here}
 use Rattle.protocol.proofs.Members.{In, in-push, in-more, in-map, any-none}
@@ -203,6 +203,7 @@ module _ {S : Type 0} where
   owned-outcome M h b o = cases M h (λ c x. Owned (x .hall)) record {
     refused = λ c r. o;
     waited = λ p is told n. owned-marked h o told;
+    installs = λ k t p e. record { low = o .low; active = o .active; unpivoted = o .unpivoted };
     loads = λ k p e. record { low = o .low; active = o .active; unpivoted = o .unpivoted };
     opens = λ k e. owned-opened h o k;
     cancels = λ p is e. owned-changed h o p is (stand (Withdrawing End)) (λ q. refl) (λ _. ap past-pivot e);
@@ -218,7 +219,7 @@ module _ {S : Type 0} where
   owned-of : (h : Hall S) → Held h → Owned h
   owned-of h d = record { low = d .low; active = d .active; unpivoted = d .unpivoted }
 
-  pub held-outcome : (M : Meaning S) (h : Hall S) → Held h → (c : Call) → Read c → Held (outcome M h c .hall)
+  pub held-outcome : (M : Meaning S) (h : Hall S) → Held h → (c : Call) → Genuine c → Held (outcome M h c .hall)
   held-outcome M h d c read =
       let o = owned-of h d in
       let p = owned-outcome M h (d .bounded) o c in

@@ -33,7 +33,7 @@ use Rattle.protocol.specs.Rules.{marked, performed, undone, committing, failed
 use Rattle.protocol.specs.Calls.{Call, else, against-open, loaded, opened, outcome, ends, committed-records, Event, all-singles}
 use Rattle.protocol.proofs.Cases.{cases}
 use Rattle.protocol.specs.Statements.{hall-after, bare}
-use Rattle.protocol.specs.Room.{Read, HasRoom}
+use Rattle.protocol.specs.Room.{Genuine, HasRoom}
 use Rattle.protocol.proofs.Members.{In, none-any}
 use Rattle.protocol.proofs.Finds.{found-start, from-map, change-keeps, from-changed, from-without, from-push, some-same, none-some}
 use Rattle.protocol.proofs.Lasts.{NotOf, Loose, LooseIs, loose-is}
@@ -185,11 +185,12 @@ into-room xs (outer b) k e room = room
 into-room xs (inner c j r) k e room = (room .0, omega (arith, e, ap rest-size (reached-alternative c k)))
 
 module _ {S : Type 0} (M : Meaning S) where
-  pub rooms-by : (h : Hall S) → NotOf (suc (h .given)) (h .log) → ((p : Process) → find (p .start) (h .processes) ≡ Some p → p .standing ≡ Withdrawing Restart → loose (p .start) (h .log) ≡ None → NotOf (p .start) (h .log)) → Rooms h → (c : Call) → Read c → Rooms (outcome M h c .hall)
-  rooms-by h free none-of rooms = cases M h (λ c o. Read c → Rooms (o .hall)) record {
+  pub rooms-by : (h : Hall S) → NotOf (suc (h .given)) (h .log) → ((p : Process) → find (p .start) (h .processes) ≡ Some p → p .standing ≡ Withdrawing Restart → loose (p .start) (h .log) ≡ None → NotOf (p .start) (h .log)) → Rooms h → (c : Call) → Genuine c → Rooms (outcome M h c .hall)
+  rooms-by h free none-of rooms = cases M h (λ c o. Genuine c → Rooms (o .hall)) record {
     refused = λ c r read. rooms;
     waited = λ p is told n read. rooms-marked h rooms told;
-    loads = λ k b e read. rooms-loaded h rooms k b read;
+    loads = λ k b e read. rooms-loaded h rooms k b (read .1 .few);
+    installs = λ k t b e read. rooms-loaded h rooms k b (read .few);
     opens = λ k e read. rooms-opened h rooms free k (full k e);
     cancels = λ p is e read. rooms-changed h rooms (p .start) p is (stand (Withdrawing End)) (λ q. refl) (rooms .actives (p .start) p is);
     steps = λ p is g a to n free o e read. rooms-done h rooms p is false a to o (subst (NextRoom (own (p .start) (h .log))) n (next-room (own (p .start) (h .log)) (p .at) (rooms .actives (p .start) p is)));
@@ -209,10 +210,10 @@ module _ {S : Type 0} (M : Meaning S) where
           (last-none (when (ltb 7 k) NoPlace) (else (when (not (isSome (getD (h .programs) k None))) NotLoaded) (else (when (leb 16 (length (h .processes))) Full) (else (when (leb 65535 (h .given)) NoNumber) (when (ltb 1024 (length (committed-records (h .log)) + 32 * (length (h .processes) + 1))) NoRoom)))) e)))))
 
 module _ {S : Type 0} (M : Meaning S) (laws : Laws M) (s : S) where
-  rooms-outcome : (h : Hall S) → Sound M s h → Rooms h → (c : Call) → Read c → Rooms (outcome M h c .hall)
+  rooms-outcome : (h : Hall S) → Sound M s h → Rooms h → (c : Call) → Genuine c → Rooms (outcome M h c .hall)
   rooms-outcome h sound rooms = rooms-by M h (λ r i (f : r .start ≡ suc (h .given)). omega (arith, sound .owners r i .low)) (λ p is e none. none-left M laws s h sound p is e none) rooms
 
-  rooms-ends : (h : Hall S) → Sound M s h → Rooms h → (cs : List Call) → All Read cs → Rooms (ends M h cs)
+  rooms-ends : (h : Hall S) → Sound M s h → Rooms h → (cs : List Call) → All Genuine cs → Rooms (ends M h cs)
   rooms-ends h sound rooms [] read = rooms
   rooms-ends h sound rooms (c ∷ cs) read = rooms-ends (outcome M h c .hall) (sound-outcome M laws s h sound c) (rooms-outcome h sound rooms c (read .0)) cs (read .1)
 

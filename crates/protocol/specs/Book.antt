@@ -18,7 +18,7 @@ use Rattle.program.specs.Positions.{Position, into}
 use Rattle.protocol.specs.Ahead.{Next, nothing, plain, crossing, next}
 use Rattle.protocol.specs.Log.{owned, dropped, last-of, sealed}
 use Rattle.protocol.specs.Hall.{Process, Hall, beginning}
-use Rattle.protocol.specs.Calls.{Call, loading, opening, stepping, cancelling}
+use Rattle.protocol.specs.Calls.{Call, loading, installing, opening, stepping, cancelling}
 
 -- a process that the book has entered, and where it is in its program
 pub record Entry : Type 0 where
@@ -93,6 +93,7 @@ on-open b k (Refused r) = b
 
 abbrev pub noted : Book → Call → Answer → Book
 noted b (loading k p) a = on-load b k p a
+noted b (installing k t p o) a = on-load b k p a
 noted b (opening k) a = on-open b k a
 noted b (stepping n) a = on-step b (seek n (b .entries)) a
 noted b (cancelling n) a = b

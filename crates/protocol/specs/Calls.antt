@@ -19,8 +19,12 @@ use Rattle.protocol.specs.declared.answer.Turn.{Turn}
 use Rattle.protocol.specs.declared.answer.Turn.the-variants as turns
 use Rattle.protocol.specs.declared.answer.Answer.{Answer}
 use Rattle.protocol.specs.declared.answer.Answer.the-variants.{Loaded, Opened, Cancelled, Stepped, Refused}
+use Rattle.program.specs.declared.refusal.Refusal as text
+use Rattle.program.specs.Refusals.{number-of}
+use Rattle.protocol.specs.declared.answer.Layer.{Layer}
+use Rattle.protocol.specs.declared.answer.Layer.the-variants as layers
 use Rattle.protocol.specs.declared.answer.Refusal.{Refusal}
-use Rattle.protocol.specs.declared.answer.Refusal.the-variants.{NoPlace, Busy, NoActivity, WrongKind, NotLoaded, Full, NoNumber, NoRoom, NoProcess, IsPastPivot, IsWithdrawing, LongList, UnknownKind}
+use Rattle.protocol.specs.declared.answer.Refusal.the-variants.{BadText, NoPlace, Busy, NoActivity, WrongKind, NotLoaded, Full, NoNumber, NoRoom, NoProcess, IsPastPivot, IsWithdrawing, LongList, UnknownKind}
 use Rattle.station.specs.Meaning.{Meaning}
 use Rattle.program.specs.Grammar.{Body, body-steps}
 use Rattle.program.specs.declared.command.Kind.{Kind}
@@ -30,8 +34,10 @@ use Rattle.protocol.specs.Log.{any}
 use Rattle.protocol.specs.Hall.{Process, Hall, find, changed, stand, with-processes, beginning}
 use Rattle.protocol.specs.Rules.{Outcome, answered, step-of}
 
+-- A call on a hall. A program is spoken of by its tree. Installing names the text, and what reading it comes to: the tree, and the refusal if there is one.
 pub data Call : Type 0 where
   loading : ℕ → Body → Call
+  installing : ℕ → List ℕ → Body → Option text.Refusal → Call
   opening : ℕ → Call
   stepping : ℕ → Call
   cancelling : ℕ → Call
@@ -92,6 +98,8 @@ module _ {S : Type 0} where
 
   abbrev pub outcome : Meaning S → Hall S → Call → Outcome S
   outcome M h (loading k b) = refused-or h (against-load M h k b) (loaded h k b)
+  outcome M h (installing k t b None) = refused-or h (against-load M h k b) (loaded h k b)
+  outcome M h (installing k t b (Some e)) = answered h (Refused (BadText e))
   outcome M h (opening k) = refused-or h (against-open h k) (opened h k)
   outcome M h (stepping n) = step-of M h (find n (h .processes))
   outcome M h (cancelling n) = cancel-of h (find n (h .processes))
@@ -118,7 +126,9 @@ abbrev pub calls-of : List Request → List Call
 calls-of [] = []
 calls-of (r ∷ rs) = and-call (call-of r) (calls-of rs)
 
+-- the number of a refusal
 abbrev pub code : Refusal → ℕ
+code (BadText e) = number-of (e .fault)
 code NoPlace = 7
 code Busy = 8
 code (NoActivity i) = 9
@@ -132,6 +142,23 @@ code IsPastPivot = 16
 code IsWithdrawing = 17
 code LongList = 18
 code UnknownKind = 19
+
+-- the layer that a refusal comes from
+abbrev pub layer : Refusal → Layer
+layer (BadText e) = layers.Text
+layer NoPlace = layers.Hall
+layer Busy = layers.Hall
+layer (NoActivity i) = layers.Station
+layer (WrongKind i) = layers.Station
+layer NotLoaded = layers.Hall
+layer Full = layers.Hall
+layer NoNumber = layers.Hall
+layer NoRoom = layers.Hall
+layer NoProcess = layers.Hall
+layer IsPastPivot = layers.Hall
+layer IsWithdrawing = layers.Hall
+layer LongList = layers.Hall
+layer UnknownKind = layers.Hall
 
 abbrev pub write : Request → ℕ → ℕ → Request
 write r l n = record { kind = r .kind; operand = r .operand; letter = l; number = n }

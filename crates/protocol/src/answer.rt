@@ -1,8 +1,11 @@
 // What calls are answered.
+use program::Refusal as TextRefusal;
 
 // Why a call is refused. A step that does not fit its station is named by its ordinal in the text.
 #[derive(Clone, Copy)]
 pub enum Refusal {
+    // 1 to 6: the text that is to be installed is no program, by its own refusal
+    BadText(TextRefusal),
     // 7: there is no such program place
     NoPlace,
     // 8: an active process runs the program at that place
@@ -29,6 +32,14 @@ pub enum Refusal {
     LongList,
     // 19: the scan record is of no known kind
     UnknownKind,
+}
+
+// Which layer a refusal comes from: the text, the hall, or the station.
+#[derive(Clone, Copy)]
+pub enum Layer {
+    Text,
+    Hall,
+    Station,
 }
 
 // What a step came to, by its letter: D and the station's answer; F; W and the smallest start number that blocks; U and the

@@ -6,6 +6,7 @@ mod standing;
 mod theorems;
 
 pub use answer::Answer;
+pub use answer::Layer;
 pub use answer::Refusal;
 pub use answer::Turn;
 pub use record::Record;
