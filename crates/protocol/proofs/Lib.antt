@@ -19,3 +19,4 @@ pub mod Places
 pub mod Bounds
 pub mod Holds
 pub mod Tests
+pub mod Outcomes

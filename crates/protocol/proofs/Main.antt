@@ -17,6 +17,7 @@ use Rattle.serial.proofs.Sorting.{all-insert}
 use Rattle.serial.proofs.Theorems.{sorting-replays}
 use Rattle.protocol.specs.declared.record.Record.{Record}
 use Rattle.station.specs.Meaning.{Meaning}
+use Rattle.protocol.specs.declared.answer.Refusal.the-variants.{LongList}
 use Rattle.protocol.specs.Means.{actions, Laws, Does, conflicting}
 use Rattle.protocol.specs.Log.{own, to-pivot, orderly, prior, pivoted, group, number}
 use Rattle.protocol.specs.Hall.{Hall, fresh}
@@ -105,7 +106,7 @@ module _ {S : Type 0} (M : Meaning S) (laws : Laws M) where
   after-is h (call c) = refl
   after-is h (scan rs) = go (ltb 64 (length rs))
     where
-      go : (b : Bool) → cond b record { hall = h; records = rs } (scanned M h rs) .hall ≡ ends M h (cond b [] (calls-of rs))
+      go : (b : Bool) → cond b record { hall = h; records = rs; refusal = Some LongList } (scanned M h rs) .hall ≡ ends M h (cond b [] (calls-of rs))
       go true = refl
       go false = scan-is h rs
 

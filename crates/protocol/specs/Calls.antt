@@ -70,8 +70,12 @@ module _ {S : Type 0} where
   abbrev pub against-load : Meaning S → Hall S → ℕ → Body → Option Refusal
   against-load M h k b = else (when (ltb 7 k) NoPlace) (else (when (any (λ q. eqb (q .place) k) (h .processes)) Busy) (faults M 0 (body-steps b)))
 
+  -- the hall with a program at the place
+  abbrev pub with-program : Hall S → ℕ → Body → Hall S
+  with-program h k b = record { station = h .station; log = h .log; processes = h .processes; programs = set (h .programs) k (Some b); given = h .given; committed = h .committed }
+
   abbrev pub loaded : Hall S → ℕ → Body → Outcome S
-  loaded h k b = answered record { station = h .station; log = h .log; processes = h .processes; programs = set (h .programs) k (Some b); given = h .given; committed = h .committed } Loaded
+  loaded h k b = answered (with-program h k b) Loaded
 
   abbrev pub against-open : Hall S → ℕ → Option Refusal
   against-open h k =
@@ -81,11 +85,12 @@ module _ {S : Type 0} where
       (else (when (leb 65535 (h .given)) NoNumber)
       (when (ltb 1024 (length (committed-records (h .log)) + 32 * (length (h .processes) + 1))) NoRoom))))
 
+  -- the hall with one process more, which runs from the beginning of the program at the place, under the next start number
+  abbrev pub with-process : Hall S → ℕ → Hall S
+  with-process h k = record { station = h .station; log = h .log; processes = h .processes ++ record { start = suc (h .given); place = k; standing = Running; at = beginning (h .programs) k } ∷ []; programs = h .programs; given = suc (h .given); committed = h .committed }
+
   abbrev pub opened : Hall S → ℕ → Outcome S
-  opened h k =
-      answered
-      record { station = h .station; log = h .log; processes = h .processes ++ record { start = suc (h .given); place = k; standing = Running; at = beginning (h .programs) k } ∷ []; programs = h .programs; given = suc (h .given); committed = h .committed }
-      (Opened (suc (h .given)))
+  opened h k = answered (with-process h k) (Opened (suc (h .given)))
 
   abbrev pub cancel-by : Hall S → Process → Standing → Outcome S
   cancel-by h p Running = answered (with-processes h (changed (p .start) (stand (Withdrawing End)) (h .processes))) Cancelled
@@ -184,6 +189,7 @@ written r (Refused f) = write r 33 (code f)
 pub record Scan (S : Type 0) : Type 0 where
   pub hall : Hall S
   pub records : List Request
+  pub refusal : Option Refusal
 
 module _ {S : Type 0} where
   abbrev pub one : Meaning S → Hall S → Option Call → Outcome S
@@ -191,16 +197,16 @@ module _ {S : Type 0} where
   one M h (Some c) = outcome M h c
 
   abbrev pub behind : Request → Scan S → Scan S
-  behind r s = record { hall = s .hall; records = r ∷ s .records }
+  behind r s = record { hall = s .hall; records = r ∷ s .records; refusal = s .refusal }
 
   -- worked from the first to the last, each record answered in its own last two fields
   abbrev pub scanned : Meaning S → Hall S → List Request → Scan S
-  scanned M h [] = record { hall = h; records = [] }
+  scanned M h [] = record { hall = h; records = []; refusal = None }
   scanned M h (r ∷ rs) = behind (written r (one M h (call-of r) .answer)) (scanned M (one M h (call-of r) .hall) rs)
 
   -- over 64 records: refused, and nothing is written
   abbrev pub scan-outcome : Meaning S → Hall S → List Request → Scan S
-  scan-outcome M h rs = cond (ltb 64 (length rs)) record { hall = h; records = rs } (scanned M h rs)
+  scan-outcome M h rs = cond (ltb 64 (length rs)) record { hall = h; records = rs; refusal = Some LongList } (scanned M h rs)
 
 -- what may come in: a call, or a scan list
 pub data Event : Type 0 where

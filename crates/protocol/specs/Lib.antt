@@ -8,5 +8,6 @@ pub mod Calls
 pub mod Book
 pub mod Statements
 pub mod Relation
+pub mod Comes
 pub mod Room
 pub mod Held

@@ -1,5 +1,6 @@
 // The theorems about halls, each on a function's contract, over every station.
 ghost use Rattle.protocol.specs.Statements.{Agrees, Stays};
+ghost use Rattle.protocol.specs.Comes.{Calls-exactly, Scans-exactly};
 ghost use Rattle.protocol.specs.Relation.{StepsExactly};
 ghost use Rattle.protocol.specs.Room.{HasRoom, StaysBounded};
 use station::Station;
@@ -18,9 +19,12 @@ pub fn pivots_stay<S: Station>() -> u8
     0
 }
 
-// A step comes to just one of the things that the rules allow.
-pub fn steps_exact<S: Station>() -> u8
-    ensures { λ _. ⌜ StepsExactly (S·Station .meaning) ⌝ }
+// Every call comes to exactly one of the things that the rules allow: a load, an installing, an opening, a step, a cancelling,
+// and a scan list.
+pub fn calls_have_one_outcome<S: Station>() -> u8
+    ensures calls { λ _. ⌜ Calls-exactly (S·Station .meaning) ⌝ }
+    ensures steps { λ _. ⌜ StepsExactly (S·Station .meaning) ⌝ }
+    ensures scans { λ _. ⌜ Scans-exactly (S·Station .meaning) ⌝ }
 {
     0
 }

@@ -1,0 +1,6 @@
+use Rattle.protocol.proofs.Exact.{exact}
+use Rattle.protocol.proofs.Outcomes.{calls-exactly, scans-exactly}
+use Rattle.protocol.proofs.theorems.calls_have_one_outcome.Needs as need
+
+pub returns : need.returns
+returns g c = record { calls = calls-exactly (g .S·Station .meaning); steps = exact (g .S·Station .meaning); scans = scans-exactly (g .S·Station .meaning) }
