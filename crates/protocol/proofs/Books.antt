@@ -29,7 +29,7 @@ use Rattle.protocol.specs.Hall.{Process, Hall, fresh, find, without, change, c
 use Rattle.protocol.specs.Rules.{marked, Outcome, answered, performed, restarted, gone, turning, undone, committing, failed, led}
 use Rattle.protocol.specs.Calls.{Call, loading, installing, opening, stepping, cancelling, outcome, ends, replies}
 use Rattle.protocol.proofs.Cases.{cases}
-use Rattle.protocol.specs.Book.{Entry, Book, empty, seek, struck, at-now, moved, with-entries, keep, keep-next, on-turn, on-step, noted, fed}
+use Rattle.protocol.specs.Book.{Entry, Book, empty, seek, struck, at-now, moved, with-entries, keep, keep-next, on-turn, on-step, noted}
 use Rattle.protocol.proofs.Members.{In}
 use Rattle.protocol.proofs.Finds.{found-start, some-same, none-some}
 use Rattle.protocol.proofs.Lasts.{NotOf}
@@ -146,7 +146,3 @@ module _ {S : Type 0} (M : Meaning S) (laws : Laws M) (s : S) where
           go None = refl
           go (Some e) = refl
       refused (cancelling n) r = refl
-
-  pub fed-is : (h : Hall S) → Sound M s h → (cs : List Call) → fed (view h) cs (replies M h cs) ≡ view (ends M h cs)
-  fed-is h sound [] = refl
-  fed-is h sound (c ∷ cs) = ap (λ b. fed b cs (replies M (outcome M h c .hall) cs)) (noted-is h sound c) ∙ fed-is (outcome M h c .hall) (sound-outcome M laws s h sound c) cs

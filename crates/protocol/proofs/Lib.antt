@@ -11,6 +11,7 @@ pub mod Keeps
 pub mod Books
 pub mod Firm
 pub mod Unique
+pub mod History
 pub mod Main
 pub mod Exact
 pub mod Counts

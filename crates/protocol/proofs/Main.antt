@@ -24,13 +24,13 @@ use Rattle.protocol.specs.Hall.{Hall, fresh}
 use Rattle.protocol.specs.Calls.{Call, Event, call, scan, singles, all-singles, ends, replies, outcome, one, scanned, call-of, calls-of, and-call, after, after-all}
 use Rattle.protocol.specs.declared.scan.Request.{Request}
 use Rattle.protocol.proofs.Ranks.{Later, later}
-use Rattle.protocol.specs.Book.{Book, empty, fed}
+use Rattle.protocol.specs.Book.{Book, empty}
 use Rattle.protocol.specs.Statements.{hall-after, book-after, Agree, Agrees, Orderly, bare, Begins, Stays}
 use Rattle.protocol.proofs.Members.{In, pairs-from}
 use Rattle.protocol.proofs.Sound.{Sound}
 use Rattle.protocol.proofs.Changes.{sound-fresh}
 use Rattle.protocol.proofs.Keeps.{sound-ends}
-use Rattle.protocol.proofs.Books.{fed-is}
+use Rattle.protocol.proofs.History.{history-is, sound-events}
 use Rattle.protocol.proofs.Firm.{own-sort, grows-ends, pivot-begins, begins-map, begins-more}
 use Rattle.protocol.proofs.Heart.{any-state, commuting}
 use Rattle.protocol.proofs.Unique.{one-run, tied, in-own}
@@ -115,10 +115,10 @@ module _ {S : Type 0} (M : Meaning S) (laws : Laws M) where
   all-is h (e ∷ es) = all-is (after M h e) es ∙ ap (λ g. ends M g (all-singles es)) (after-is h e) ∙ sym (ends-append h (singles e) (all-singles es))
 
   sound-after : (s : S) (es : List Event) → Sound M s (hall-after M s es)
-  sound-after s es = subst (Sound M s) (sym (all-is (fresh s) es)) (sound-ends M laws s (fresh s) (sound-fresh M s) (all-singles es))
+  sound-after s es = sound-events M laws s (fresh s) (sound-fresh M s) es
 
   kept-is : (s : S) (es : List Event) → book-after M s es .kept ≡ hall-after M s es .log
-  kept-is s es = ap (λ b. b .kept) (fed-is M laws s (fresh s) (sound-fresh M s) (all-singles es)) ∙ ap (λ g. g .log) (sym (all-is (fresh s) es))
+  kept-is s es = ap (λ b. b .kept) (history-is M laws s (fresh s) (sound-fresh M s) es)
 
   sorted-runs : (s : S) (h : Hall S) → Sound M s h → Replays (Does M) (orderly (h .log)) s (h .station)
   sorted-runs s h sound =

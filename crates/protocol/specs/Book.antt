@@ -18,7 +18,9 @@ use Rattle.program.specs.Positions.{Position, into}
 use Rattle.protocol.specs.Ahead.{Next, nothing, plain, crossing, next}
 use Rattle.protocol.specs.Log.{owned, dropped, last-of, sealed}
 use Rattle.protocol.specs.Hall.{Process, Hall, beginning}
-use Rattle.protocol.specs.Calls.{Call, loading, installing, opening, stepping, cancelling}
+use Rattle.protocol.specs.declared.scan.Request.{Request}
+use Rattle.protocol.specs.Options.{when}
+use Rattle.protocol.specs.Calls.{Call, loading, installing, opening, stepping, cancelling, else, call-of}
 
 -- a process that the book has entered, and where it is in its program
 pub record Entry : Type 0 where
@@ -98,8 +100,42 @@ noted b (opening k) a = on-open b k a
 noted b (stepping n) a = on-step b (seek n (b .entries)) a
 noted b (cancelling n) a = b
 
--- the book after calls with their answers
-abbrev pub fed : Book → List Call → List Answer → Book
-fed b [] rs = b
-fed b (c ∷ cs) [] = b
-fed b (c ∷ cs) (a ∷ rs) = fed (noted b c a) cs rs
+-- what the letter and the number of a scan record say; all else says nothing that the book notes
+abbrev pub answer-told : ℕ → ℕ → Option Answer
+answer-told l n =
+    else (when (eqb l 68) (Stepped (turns.Done n)))
+    (else (when (eqb l 85) (Stepped (turns.Undone n)))
+    (else (when (eqb l 65) (Stepped turns.Restarted))
+    (else (when (eqb l 78) (Stepped (turns.Next n)))
+    (else (when (eqb l 71) (Stepped turns.Gone))
+    (else (when (eqb l 75) (Stepped (turns.Committed n)))
+    (when (eqb l 79) (Opened n)))))))
+
+abbrev pub noted-if : Book → Option Call → Option Answer → Book
+noted-if b None a = b
+noted-if b (Some c) None = b
+noted-if b (Some c) (Some a) = noted b c a
+
+-- a scan record that was answered: the call that it is, with its letter and number
+abbrev pub noted-record : Book → Request → Book
+noted-record b r = noted-if b (call-of r) (answer-told (r .letter) (r .number))
+
+abbrev pub noted-records : Book → List Request → Book
+noted-records b [] = b
+noted-records b (r ∷ rs) = noted-records (noted-record b r) rs
+
+-- what is told of a hall: a call with its answer; a scan list that was served, with its answers; one that was refused
+pub data Told : Type 0 where
+  called : Call → Answer → Told
+  scan-served : List Request → Told
+  scan-refused : Told
+
+abbrev pub heard : Book → Told → Book
+heard b (called c a) = noted b c a
+heard b (scan-served rs) = noted-records b rs
+heard b scan-refused = b
+
+-- the book after what was told, from first to last
+abbrev pub book-of : Book → List Told → Book
+book-of b [] = b
+book-of b (t ∷ ts) = book-of (heard b t) ts

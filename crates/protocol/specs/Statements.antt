@@ -1,8 +1,10 @@
--- The two rules. Assumes nothing.
+-- The promise: the hall's run and the orderly run agree, and a performed pivot stays.
 use mathlib.Core.Path.{_≡_}
-use mathlib.Core.List.{List, _++_, map}
+use mathlib.Core.List.{List, [], _∷_, _++_, map}
 use Prim.Native.Nat.{ℕ}
-use mathlib.Core.Bool.{true}
+use mathlib.Core.Bool.{true, cond}
+use lib.Dec.{ltb}
+use lib.ListN.{length}
 use Rattle.serial.specs.Sorts.{Pairwise}
 use Rattle.serial.specs.Replay.{Replays}
 use Rattle.protocol.specs.declared.record.Record.{Record}
@@ -10,8 +12,8 @@ use Rattle.station.specs.Meaning.{Meaning}
 use Rattle.protocol.specs.Means.{Does}
 use Rattle.protocol.specs.Log.{own, to-pivot, orderly, prior, pivoted}
 use Rattle.protocol.specs.Hall.{Hall, fresh}
-use Rattle.protocol.specs.Calls.{Call, Event, after-all, replies, all-singles}
-use Rattle.protocol.specs.Book.{Book, empty, fed}
+use Rattle.protocol.specs.Calls.{Call, Event, call, scan, outcome, scan-outcome, after, after-all}
+use Rattle.protocol.specs.Book.{Book, empty, Told, called, scan-served, scan-refused, book-of}
 
 -- a rearrangement of the kept steps: each process's in the order kept, and by group and number
 pub record Orderly (kept run : List Record) : Type 0 where
@@ -22,8 +24,18 @@ module _ {S : Type 0} where
   abbrev pub hall-after : Meaning S → S → List Event → Hall S
   hall-after M s es = after-all M (fresh s) es
 
+  -- what is told of a hall that works a call or a scan list
+  abbrev pub tells : Meaning S → Hall S → Event → Told
+  tells M h (call c) = called c (outcome M h c .answer)
+  tells M h (scan rs) = cond (ltb 64 (length rs)) scan-refused (scan-served (scan-outcome M h rs .records))
+
+  abbrev pub history : Meaning S → Hall S → List Event → List Told
+  history M h [] = []
+  history M h (e ∷ es) = tells M h e ∷ history M (after M h e) es
+
+  -- the book is fed with that alone
   abbrev pub book-after : Meaning S → S → List Event → Book
-  book-after M s es = fed empty (all-singles es) (replies M (fresh s) (all-singles es))
+  book-after M s es = book-of empty (history M (fresh s) es)
 
   -- the hall's records hold exactly the kept steps; each is possible in the orderly run and has there the answer that it has; both runs end in the same state
   pub record Agree (M : Meaning S) (s : S) (es : List Event) : Type 0 where
