@@ -1,4 +1,4 @@
--- The book says what the hall holds. Assumes nothing.
+-- The book says what the hall holds.
 use mathlib.Core.Path.{_≡_, refl, sym, ap, subst, _∙_}
 use mathlib.Core.Bool.{Bool, true, false, not, cond, _&&_, _||_}
 use mathlib.Core.List.{List, [], _∷_, _++_, map}
@@ -24,17 +24,17 @@ use Rattle.station.specs.Meaning.{Meaning}
 use Rattle.protocol.specs.Means.{Laws}
 use Rattle.program.specs.Positions.{Position, into, alternative-of}
 use Rattle.protocol.specs.Ahead.{Next, nothing, plain, crossing, next}
-use Rattle.protocol.specs.Log.{Split, owned, removed, dropped, last-of, loose, unless-pivot, sealed, pivoted}
+use Rattle.protocol.specs.Log.{Split, owned, removed, dropped, last-of, loose, unless-pivot, committed-under, pivoted}
 use Rattle.protocol.specs.Hall.{Process, Hall, fresh, find, without, change, changed, stand, move, with-processes, least, beginning, running, past-pivot}
 use Rattle.protocol.specs.Rules.{marked, Outcome, answered, performed, restarted, gone, turning, undone, committing, failed, led}
 use Rattle.protocol.specs.Calls.{Call, loading, installing, opening, stepping, cancelling, outcome, ends, replies}
-use Rattle.protocol.proofs.Cases.{cases}
+use Rattle.protocol.proofs.CallCases.{cases}
 use Rattle.protocol.specs.Book.{Entry, Book, empty, seek, struck, at-now, moved, with-entries, keep, keep-next, on-turn, on-step, noted}
 use Rattle.protocol.proofs.Members.{In}
-use Rattle.protocol.proofs.Finds.{found-start, some-same, none-some}
-use Rattle.protocol.proofs.Lasts.{NotOf}
+use Rattle.protocol.proofs.Processes.{found-start, some-same, none-some}
+use Rattle.protocol.proofs.LastRecords.{NotOf}
 use Rattle.protocol.proofs.Sound.{Sound}
-use Rattle.protocol.proofs.Keeps.{sound-outcome, none-left}
+use Rattle.protocol.proofs.SoundKept.{sound-outcome, none-left}
 
 abbrev pub entry-of : Process → Entry
 entry-of q = record { start = q .start; place = q .place; at = q .at }
@@ -129,7 +129,7 @@ module _ {S : Type 0} (M : Meaning S) (laws : Laws M) (s : S) where
     cancels = λ p is e. ap (with-entries (view h)) (stood (p .start) (Withdrawing End) (h .processes));
     steps = λ p is g a to n free o e. on-its h p is (performed h p false a to o) (noted-performed h p false a to (λ x. ap (keep-next (view h) (p .start) x) n) o);
     crosses = λ p is g a to n alone free o e. on-its h p is (performed h p true a to o) (noted-performed h p true a to (λ x. ap (keep-next (view h) (p .start) x) n) o);
-    commits = λ p is g n free. on-its h p is (committing h p) (ap (λ l. record { programs = h .programs; entries = l; kept = map (sealed (p .start) (suc (h .committed))) (h .log) }) (struck-is (p .start) (h .processes)));
+    commits = λ p is g n free. on-its h p is (committing h p) (ap (λ l. record { programs = h .programs; entries = l; kept = map (committed-under (p .start) (suc (h .committed))) (h .log) }) (struck-is (p .start) (h .processes)));
     takes-back = λ p is b z l free. on-its h p is (undone M h z) (ap (λ o. record { programs = h .programs; entries = map entry-of (h .processes); kept = dropped (h .log) o }) (last-from-loose (last-of (p .start) (h .log)) z l));
     restarts = λ p is e none. on-its h p is (restarted h p) (ap (with-entries (view h)) (moved-is (p .start) Running (beginning (h .programs) (p .place)) (h .processes)));
     leaves = λ p is e none. on-its h p is (gone h p) (λ i. record { programs = h .programs; entries = struck-is (p .start) (h .processes) i; kept = all-kept (p .start) (h .log) (none-left M laws s h sound p is e none) i });

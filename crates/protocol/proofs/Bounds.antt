@@ -1,4 +1,4 @@
--- Every call keeps numbers and tables within their bounds. Assumes nothing.
+-- Every call keeps numbers and tables within their bounds.
 use mathlib.Core.Path.{_≡_, refl, sym, ap, subst, _∙_}
 use mathlib.Core.Bool.{Bool, true, false, not, cond, _&&_}
 use mathlib.Core.List.{List, [], _∷_, _++_, map}
@@ -28,10 +28,10 @@ use Rattle.protocol.specs.Rules.{marked, performed, failed, led}
 use Rattle.protocol.specs.Calls.{Call, else, against-open, outcome, ends, committed-records, Event, all-singles}
 use Rattle.protocol.specs.Statements.{hall-after}
 use Rattle.protocol.specs.Room.{Bounded, StaysBounded}
-use Rattle.protocol.proofs.Finds.{change-keeps, none-some}
-use Rattle.protocol.proofs.Cases.{cases}
+use Rattle.protocol.proofs.Processes.{change-keeps, none-some}
+use Rattle.protocol.proofs.CallCases.{cases}
 use Rattle.protocol.proofs.Counts.{length-map, length-push, without-less}
-use Rattle.protocol.proofs.Main.{all-is}
+use Rattle.protocol.proofs.Promise.{all-is}
 
 -- lists that were changed
 

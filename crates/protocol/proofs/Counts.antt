@@ -1,4 +1,4 @@
--- How many records there are. Assumes nothing.
+-- How many records there are.
 use mathlib.Core.Path.{_≡_, refl, sym, ap, subst, _∙_}
 use mathlib.Core.Bool.{Bool, true, false, not, cond, _&&_, _||_}
 use mathlib.Core.List.{List, [], _∷_, _++_, map}
@@ -16,15 +16,15 @@ use Rattle.protocol.specs.declared.record.Record.{Record}
 use Rattle.program.specs.Grammar.{Body, finish, compensatable, pivot, Choices, row, orElse, body-steps, choices-steps, row-steps}
 use Rattle.program.specs.Positions.{Rest, in-body, in-row, Position, outer, inner, alternative}
 use Rattle.protocol.specs.Ahead.{Next, nothing, plain, crossing, next}
-use Rattle.protocol.specs.Log.{any, Split, owned, own, rejoined, removed, last-of, unless-pivot, loose, to-pivot, from-pivot, sealed}
+use Rattle.protocol.specs.Log.{any, Split, owned, own, rejoined, removed, last-of, unless-pivot, loose, to-pivot, from-pivot, committed-under}
 use Rattle.protocol.specs.Hall.{Process, find, without}
 use Rattle.protocol.specs.Calls.{committed-records}
-use Rattle.protocol.specs.Statements.{bare}
+use Rattle.protocol.specs.Statements.{without-commit-number}
 pub use Rattle.protocol.specs.Held.{size, choice-size, rest-size, Roomy}
 use Rattle.protocol.proofs.Members.{In}
-use Rattle.protocol.proofs.Finds.{none-some, some-same}
-use Rattle.protocol.proofs.Lasts.{NotOf, Last, Loose, LastIs, last-is}
-use Rattle.protocol.proofs.Firm.{kept-append, pivot-plain, own-none, own-sealed, pivot-sealed}
+use Rattle.protocol.proofs.Processes.{none-some, some-same}
+use Rattle.protocol.proofs.LastRecords.{NotOf, Last, Loose, LastIs, last-is}
+use Rattle.protocol.proofs.PivotsStay.{kept-append, pivot-plain, own-none, own-sealed, pivot-sealed}
 
 pub length-map : {X Y : Type 0} (f : X → Y) (xs : List X) → length (map f xs) ≡ length xs
 length-map f [] = refl
@@ -178,14 +178,14 @@ closed-less (x ∷ xs) r ys = go (not (eqb (x .commit) 0)) (closed-less xs r ys)
     go true h = omega arith
     go false h = h
 
-pub closed-sealed : (n c : ℕ) (log : List Record) → length (committed-records (map (sealed n c) log)) ≤ length (committed-records log) + length (own n log)
+pub closed-sealed : (n c : ℕ) (log : List Record) → length (committed-records (map (committed-under n c) log)) ≤ length (committed-records log) + length (own n log)
 closed-sealed n c [] = omega arith
 closed-sealed n c (r ∷ rs) = go (owned n r) (closed-sealed n c rs)
   where
-    one : (x : Record) → length (cond (not (eqb (x .commit) 0)) (x ∷ committed-records (map (sealed n c) rs)) (committed-records (map (sealed n c) rs))) ≤ suc (length (committed-records (map (sealed n c) rs)))
+    one : (x : Record) → length (cond (not (eqb (x .commit) 0)) (x ∷ committed-records (map (committed-under n c) rs)) (committed-records (map (committed-under n c) rs))) ≤ suc (length (committed-records (map (committed-under n c) rs)))
     one x = by (not (eqb (x .commit) 0))
       where
-        by : (b : Bool) → length (cond b (x ∷ committed-records (map (sealed n c) rs)) (committed-records (map (sealed n c) rs))) ≤ suc (length (committed-records (map (sealed n c) rs)))
+        by : (b : Bool) → length (cond b (x ∷ committed-records (map (committed-under n c) rs)) (committed-records (map (committed-under n c) rs))) ≤ suc (length (committed-records (map (committed-under n c) rs)))
         by true = omega arith
         by false = omega arith
 
@@ -199,11 +199,11 @@ closed-sealed n c (r ∷ rs) = go (owned n r) (closed-sealed n c rs)
     sealed-r : Record
     sealed-r = record { start = r .start; activity = r .activity; answer = r .answer; commit = c; pivot = r .pivot }
 
-    same : (b : Bool) → length (committed-records (map (sealed n c) rs)) ≤ length (committed-records rs) + length (own n rs) → length (cond b (r ∷ committed-records (map (sealed n c) rs)) (committed-records (map (sealed n c) rs))) ≤ length (cond b (r ∷ committed-records rs) (committed-records rs)) + length (own n rs)
+    same : (b : Bool) → length (committed-records (map (committed-under n c) rs)) ≤ length (committed-records rs) + length (own n rs) → length (cond b (r ∷ committed-records (map (committed-under n c) rs)) (committed-records (map (committed-under n c) rs))) ≤ length (cond b (r ∷ committed-records rs) (committed-records rs)) + length (own n rs)
     same true h = omega arith
     same false h = h
 
-    go : (b : Bool) → length (committed-records (map (sealed n c) rs)) ≤ length (committed-records rs) + length (own n rs) → length (committed-records (cond b sealed-r r ∷ map (sealed n c) rs)) ≤ length (committed-records (r ∷ rs)) + length (cond b (r ∷ own n rs) (own n rs))
+    go : (b : Bool) → length (committed-records (map (committed-under n c) rs)) ≤ length (committed-records rs) + length (own n rs) → length (committed-records (cond b sealed-r r ∷ map (committed-under n c) rs)) ≤ length (committed-records (r ∷ rs)) + length (cond b (r ∷ own n rs) (own n rs))
     go true h = omega (arith, one sealed-r, at-least, h)
     go false h = same (not (eqb (r .commit) 0)) h
 

@@ -25,9 +25,9 @@ use Rattle.protocol.specs.Calls.{Call, loading, installing, opening, stepping,
 use Rattle.protocol.specs.Book.{Entry, Book, seek, on-step, noted, answer-told, noted-if, noted-record, noted-records, scan-served, scan-refused, heard, book-of}
 use Rattle.protocol.specs.Statements.{tells, history}
 use Rattle.protocol.proofs.Sound.{Sound}
-use Rattle.protocol.proofs.Keeps.{sound-outcome}
+use Rattle.protocol.proofs.SoundKept.{sound-outcome}
 use Rattle.protocol.proofs.Books.{view, noted-is}
-use Rattle.protocol.proofs.Exact.{exact}
+use Rattle.protocol.proofs.StepsExact.{exact}
 
 -- answers that the book notes nothing of
 abbrev Silent : Answer → Type 0

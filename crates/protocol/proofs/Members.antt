@@ -1,4 +1,4 @@
--- What stands in a list, and what stands before what. Assumes nothing.
+-- What stands in a list, and what stands before what.
 use mathlib.Core.Path.{_≡_, refl, sym, ap, subst, _∙_}
 use mathlib.Core.Bool.{Bool, true, false, not, cond, _&&_, _||_}
 use mathlib.Core.List.{List, [], _∷_, _++_, map}

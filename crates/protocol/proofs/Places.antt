@@ -1,4 +1,4 @@
--- The same by places in tables, as code has them. Assumes nothing.
+-- The same by places in tables, as code has them.
 use mathlib.Core.Path.{_≡_, refl, sym, ap, subst, _∙_}
 use mathlib.Core.Bool.{Bool, true, false, not, cond}
 use mathlib.Core.List.{List, [], _∷_, _++_, map}
@@ -15,8 +15,8 @@ use Rattle.serial.specs.Sorts.{Pairwise}
 use Rattle.protocol.specs.declared.record.Record.{Record}
 use Rattle.protocol.specs.Log.{last-of}
 use Rattle.protocol.specs.Hall.{Process, find, without, change, changed, least, lower}
-use Rattle.protocol.proofs.Lasts.{NotOf}
-use Rattle.protocol.proofs.Exact.{last-here}
+use Rattle.protocol.proofs.LastRecords.{NotOf}
+use Rattle.protocol.proofs.StepsExact.{last-here}
 
 -- start numbers rise along the table
 abbrev pub Rising : List Process → Type 0

@@ -1,4 +1,4 @@
--- The order of two records in the orderly run. Assumes nothing.
+-- The order of two records in the orderly run.
 use mathlib.Core.Path.{_≡_, refl, sym, ap, subst, _∙_}
 use mathlib.Core.Bool.{Bool, true, false, not, cond, _&&_, _||_}
 use mathlib.Core.List.{List, [], _∷_, _++_, map}

@@ -1,4 +1,4 @@
--- Every call leaves room in the log. Assumes nothing.
+-- Every call leaves room in the log.
 use mathlib.Core.Path.{_≡_, refl, sym, ap, subst, _∙_}
 use mathlib.Core.Bool.{Bool, true, false, not, cond, _&&_, _||_}
 use mathlib.Core.List.{List, [], _∷_, _++_, map, append-nil}
@@ -27,24 +27,24 @@ use Rattle.protocol.specs.Means.{Laws}
 use Rattle.program.specs.Grammar.{Body, Choices, row, orElse, body-steps}
 use Rattle.program.specs.Positions.{Rest, in-body, in-row, Position, outer, inner, alternative, reached, into, alternative-of}
 use Rattle.protocol.specs.Ahead.{Next, nothing, plain, crossing, next}
-use Rattle.protocol.specs.Log.{Split, owned, own, removed, loose, pivoted, to-pivot, from-pivot, sealed}
+use Rattle.protocol.specs.Log.{Split, owned, own, removed, loose, pivoted, to-pivot, from-pivot, committed-under}
 use Rattle.protocol.specs.Hall.{Process, Hall, fresh, find, without, change, changed, stand, move, with-processes, past-pivot, running, body-of, beginning, least}
 use Rattle.protocol.specs.Rules.{marked, performed, undone, committing, failed, led, record-of}
 use Rattle.protocol.specs.Calls.{Call, else, against-open, loaded, opened, outcome, ends, committed-records, Event, all-singles}
-use Rattle.protocol.proofs.Cases.{cases}
-use Rattle.protocol.specs.Statements.{hall-after, bare}
+use Rattle.protocol.proofs.CallCases.{cases}
+use Rattle.protocol.specs.Statements.{hall-after, without-commit-number}
 use Rattle.protocol.specs.Room.{Genuine, HasRoom}
 use Rattle.protocol.proofs.Members.{In, none-any}
-use Rattle.protocol.proofs.Finds.{found-start, from-map, change-keeps, from-changed, from-without, from-push, some-same, none-some}
-use Rattle.protocol.proofs.Lasts.{NotOf, Loose, LooseIs, loose-is}
-use Rattle.protocol.proofs.Firm.{own-none, own-sealed, pivot-sealed, pivot-plain}
+use Rattle.protocol.proofs.Processes.{found-start, from-map, change-keeps, from-changed, from-without, from-push, some-same, none-some}
+use Rattle.protocol.proofs.LastRecords.{NotOf, Loose, LooseIs, loose-is}
+use Rattle.protocol.proofs.PivotsStay.{own-none, own-sealed, pivot-sealed, pivot-plain}
 use Rattle.protocol.proofs.Counts.{length-map, length-push, parts, size, Roomy, roomy-few, roomy-alike, NextRoom, next-room, own-pushed, own-taken, own-left, own-others, none-loose, two-kinds, closed-push, closed-less, closed-sealed, without-less, kept-in, fewer-own, spread}
 use Rattle.protocol.specs.Held.{rest-size}
 pub use Rattle.protocol.specs.Held.{Rooms}
 use Rattle.protocol.proofs.Sound.{Sound}
-use Rattle.protocol.proofs.Changes.{sound-fresh}
-use Rattle.protocol.proofs.Keeps.{sound-outcome, sound-ends, none-left}
-use Rattle.protocol.proofs.Main.{all-is}
+use Rattle.protocol.proofs.StandingChanges.{sound-fresh}
+use Rattle.protocol.proofs.SoundKept.{sound-outcome, sound-ends, none-left}
+use Rattle.protocol.proofs.Promise.{all-is}
 
 fits-at : (k : ℕ) (xs : List (Option Body)) → All (λ o. size (body-of o) ≤ 32) xs → size (body-of (getD xs k None)) ≤ 32
 fits-at k [] all = omega arith
@@ -156,14 +156,14 @@ module _ {S : Type 0} where
     }
       where
         seal : Record → Record
-        seal = sealed (p .start) (suc (h .committed))
+        seal = committed-under (p .start) (suc (h .committed))
 
-        like : (xs : List Record) (at : Position) → Roomy xs at → Roomy (map (sealed (p .start) (suc (h .committed))) xs) at
+        like : (xs : List Record) (at : Position) → Roomy xs at → Roomy (map (committed-under (p .start) (suc (h .committed))) xs) at
         like xs at room =
-            let to : length (to-pivot (map (sealed (p .start) (suc (h .committed))) xs)) ≡ length (to-pivot xs) =
-            sym (length-map bare (to-pivot (map (sealed (p .start) (suc (h .committed))) xs))) ∙ ap length (pivot-sealed (p .start) (suc (h .committed)) xs) ∙ length-map bare (to-pivot xs) in
-            roomy-alike xs (map (sealed (p .start) (suc (h .committed))) xs) at to
-            (omega (arith, parts xs, parts (map (sealed (p .start) (suc (h .committed))) xs), length-map (sealed (p .start) (suc (h .committed))) xs, to)) room
+            let to : length (to-pivot (map (committed-under (p .start) (suc (h .committed))) xs)) ≡ length (to-pivot xs) =
+            sym (length-map without-commit-number (to-pivot (map (committed-under (p .start) (suc (h .committed))) xs))) ∙ ap length (pivot-sealed (p .start) (suc (h .committed)) xs) ∙ length-map without-commit-number (to-pivot xs) in
+            roomy-alike xs (map (committed-under (p .start) (suc (h .committed))) xs) at to
+            (omega (arith, parts xs, parts (map (committed-under (p .start) (suc (h .committed))) xs), length-map (committed-under (p .start) (suc (h .committed))) xs, to)) room
 
 -- else: the last objection
 last-none : {X : Type 0} (a b : Option X) → else a b ≡ None → b ≡ None

@@ -1,4 +1,4 @@
--- What stays true of a hall from its making on. Assumes nothing.
+-- What stays true of a hall from its making on.
 use mathlib.Core.Path.{_≡_, refl, sym, ap, subst, _∙_}
 use mathlib.Core.Bool.{Bool, true, false, not, cond, _&&_, _||_}
 use mathlib.Core.List.{List, [], _∷_, _++_, map}

@@ -1,4 +1,4 @@
--- The book, fed with calls and answers. Assumes nothing.
+-- The book, fed with calls and answers.
 use mathlib.Core.Bool.{Bool, true, false, not, cond}
 use mathlib.Core.List.{List, [], _∷_, _++_, map}
 use Prim.Native.Nat.{ℕ}
@@ -16,7 +16,7 @@ use Rattle.protocol.specs.declared.answer.Answer.the-variants.{Loaded, Opened,
 use Rattle.program.specs.Grammar.{Body}
 use Rattle.program.specs.Positions.{Position, into}
 use Rattle.protocol.specs.Ahead.{Next, nothing, plain, crossing, next}
-use Rattle.protocol.specs.Log.{owned, dropped, last-of, sealed}
+use Rattle.protocol.specs.Log.{owned, dropped, last-of, committed-under}
 use Rattle.protocol.specs.Hall.{Process, Hall, beginning}
 use Rattle.protocol.specs.declared.scan.Request.{Request}
 use Rattle.protocol.specs.Options.{when}
@@ -69,7 +69,7 @@ on-turn b e (turns.Undone a) = record { programs = b .programs; entries = b .ent
 on-turn b e turns.Restarted = with-entries b (moved (e .start) (beginning (b .programs) (e .place)) (b .entries))
 on-turn b e turns.Gone = record { programs = b .programs; entries = struck (e .start) (b .entries); kept = kept-by (λ r. not (owned (e .start) r)) (b .kept) }
 on-turn b e (turns.Next k) = with-entries b (moved (e .start) (into k (e .at)) (b .entries))
-on-turn b e (turns.Committed c) = record { programs = b .programs; entries = struck (e .start) (b .entries); kept = map (sealed (e .start) c) (b .kept) }
+on-turn b e (turns.Committed c) = record { programs = b .programs; entries = struck (e .start) (b .entries); kept = map (committed-under (e .start) c) (b .kept) }
 
 abbrev pub on-step : Book → Option Entry → Answer → Book
 on-step b None a = b

@@ -1,4 +1,4 @@
--- What each call comes to. Assumes nothing.
+-- What each call comes to.
 use mathlib.Core.Bool.{Bool, true, false, not, cond, _&&_, _||_}
 use mathlib.Core.List.{List, [], _∷_, _++_, map}
 use Prim.Native.Nat.{ℕ, suc, _+_, _*_}

@@ -1,4 +1,4 @@
--- What a hall stands for. Assumes nothing.
+-- What a hall stands for.
 use mathlib.Core.Bool.{Bool, true, false, not, cond}
 use mathlib.Core.List.{List, [], _∷_, _++_, map}
 use Prim.Native.Nat.{ℕ, min}

@@ -1,4 +1,4 @@
--- What always holds of a hall's tables, whatever the station means. Assumes nothing.
+-- What always holds of a hall's tables, whatever the station means.
 use mathlib.Core.Path.{_≡_}
 use mathlib.Core.Bool.{false}
 use mathlib.Core.List.{List}

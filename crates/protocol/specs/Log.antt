@@ -1,4 +1,4 @@
--- The log: whose records, the last of one process, and the orderly run. Assumes nothing.
+-- The log: whose records, the last of one process, and the orderly run.
 use mathlib.Core.Bool.{Bool, true, false, not, cond, _&&_, _||_}
 use mathlib.Core.List.{List, [], _∷_, _++_, map}
 use Prim.Native.Nat.{ℕ}
@@ -69,8 +69,8 @@ abbrev pub from-pivot : List Record → List Record
 from-pivot [] = []
 from-pivot (r ∷ rs) = cond (any (λ x. x .pivot) rs) (from-pivot rs) (cond (r .pivot) rs (r ∷ rs))
 
-abbrev pub sealed : ℕ → ℕ → Record → Record
-sealed n c r = cond (owned n r) record { start = r .start; activity = r .activity; answer = r .answer; commit = c; pivot = r .pivot } r
+abbrev pub committed-under : ℕ → ℕ → Record → Record
+committed-under n c r = cond (owned n r) record { start = r .start; activity = r .activity; answer = r .answer; commit = c; pivot = r .pivot } r
 
 -- the group of a record: committed, of a process with a kept pivot, of another process
 abbrev pub group : (ℕ → Bool) → Record → ℕ

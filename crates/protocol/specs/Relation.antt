@@ -1,4 +1,4 @@
--- What a step may come to, sentence by sentence. Assumes nothing.
+-- What a step may come to, sentence by sentence.
 use mathlib.Core.Path.{_≡_}
 use mathlib.Core.Bool.{Bool, true, false}
 use mathlib.Core.List.{List, [], _∷_, _++_, map}
@@ -17,7 +17,7 @@ use Rattle.protocol.specs.declared.answer.Turn.the-variants as turns
 use Rattle.station.specs.Meaning.{Meaning}
 use Rattle.program.specs.Positions.{Position, alternative-of, into}
 use Rattle.protocol.specs.Ahead.{Next, nothing, plain, crossing, next}
-use Rattle.protocol.specs.Log.{Split, rejoined, removed, own, from-pivot, sealed}
+use Rattle.protocol.specs.Log.{Split, rejoined, removed, own, from-pivot, committed-under}
 use Rattle.protocol.specs.Hall.{Process, Hall, without, changed, stand, move, with-processes, beginning, past-pivot}
 use Rattle.protocol.specs.Rules.{record-of, led, failed, by-standing, answered}
 use Rattle.protocol.specs.declared.answer.Answer.the-variants.{Stepped}
@@ -134,7 +134,7 @@ module _ {S : Type 0} where
     -- 5
     waits-commit : {n : ℕ} → Advances (p .standing) → next (p .at) ≡ nothing → Smallest h p (BlocksCommit M h p) n → Steps M h p h (turns.Wait n)
     commits : Advances (p .standing) → next (p .at) ≡ nothing → Nobody h p (BlocksCommit M h p)
-        → Steps M h p record { station = h .station; log = map (sealed (p .start) (suc (h .committed))) (h .log); processes = without (p .start) (h .processes); programs = h .programs; given = h .given; committed = suc (h .committed) } (turns.Committed (suc (h .committed)))
+        → Steps M h p record { station = h .station; log = map (committed-under (p .start) (suc (h .committed))) (h .log); processes = without (p .start) (h .processes); programs = h .programs; given = h .given; committed = suc (h .committed) } (turns.Committed (suc (h .committed)))
 
   -- what the function gives is what the rules allow, and nothing else is
   pub record Exact (M : Meaning S) (h : Hall S) (p : Process) : Type 0 where

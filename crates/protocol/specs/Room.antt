@@ -1,4 +1,4 @@
--- That the log has room. Assumes nothing.
+-- That the log has room.
 use mathlib.Core.List.{List}
 use Prim.Native.Nat.{ℕ, _+_, _≤_, _<_}
 use lib.ListN.{length}

@@ -1,4 +1,4 @@
--- What a step comes to. Assumes nothing.
+-- What a step comes to.
 use mathlib.Core.Bool.{Bool, true, false, not, cond, _&&_, _||_}
 use mathlib.Core.List.{List, [], _∷_, _++_, map}
 use Prim.Native.Nat.{ℕ, suc}
@@ -18,7 +18,7 @@ use Rattle.protocol.specs.declared.answer.Refusal.the-variants.{NoProcess}
 use Rattle.station.specs.Meaning.{Meaning}
 use Rattle.program.specs.Positions.{Position, alternative-of, into}
 use Rattle.protocol.specs.Ahead.{Next, nothing, plain, crossing, next}
-use Rattle.protocol.specs.Log.{any, owned, own, Split, rejoined, removed, loose, from-pivot, sealed}
+use Rattle.protocol.specs.Log.{any, owned, own, Split, rejoined, removed, loose, from-pivot, committed-under}
 use Rattle.protocol.specs.Hall.{Process, Hall, find, without, changed, stand, move, with-processes, beginning, running, past-pivot, retreating, least}
 
 -- the process n has a record that conflicts with the activity
@@ -130,7 +130,7 @@ module _ {S : Type 0} where
   abbrev pub committing : Hall S → Process → Outcome S
   committing h p =
       answered
-      record { station = h .station; log = map (sealed (p .start) (suc (h .committed))) (h .log); processes = without (p .start) (h .processes); programs = h .programs; given = h .given; committed = suc (h .committed) }
+      record { station = h .station; log = map (committed-under (p .start) (suc (h .committed))) (h .log); processes = without (p .start) (h .processes); programs = h .programs; given = h .given; committed = suc (h .committed) }
       (Stepped (turns.Committed (suc (h .committed))))
 
   -- the last record that may go is taken back; with none left it goes another way

@@ -48,8 +48,8 @@ module _ {S : Type 0} where
   Agrees M = (s : S) (es : List Event) → Agree M s es
 
 -- a kept step without its commit number
-abbrev pub bare : Record → Record
-bare r = record { start = r .start; activity = r .activity; answer = r .answer; commit = 0; pivot = r .pivot }
+abbrev pub without-commit-number : Record → Record
+without-commit-number r = record { start = r .start; activity = r .activity; answer = r .answer; commit = 0; pivot = r .pivot }
 
 abbrev pub Begins : {X : Type 0} → List X → List X → Type 0
 Begins {X} xs ys = (zs : List X) × (xs ++ zs ≡ ys)
@@ -58,4 +58,4 @@ Begins {X} xs ys = (zs : List X) × (xs ++ zs ≡ ys)
 abbrev pub Stays : {S : Type 0} → Meaning S → Type 0
 Stays {S} M =
     (s : S) (es more : List Event) (n : ℕ)
-    → Begins (map bare (to-pivot (own n (orderly (book-after M s es .kept))))) (map bare (own n (orderly (book-after M s (es ++ more) .kept))))
+    → Begins (map without-commit-number (to-pivot (own n (orderly (book-after M s es .kept))))) (map without-commit-number (own n (orderly (book-after M s (es ++ more) .kept))))

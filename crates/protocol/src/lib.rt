@@ -16,6 +16,5 @@ pub use standing::Direction;
 pub use standing::Standing;
 pub use theorems::bounds_stay;
 pub use theorems::calls_have_one_outcome;
-pub use theorems::pivots_stay;
 pub use theorems::room_stays;
-pub use theorems::runs_agree;
+pub use theorems::runs_agree_and_pivots_stay;

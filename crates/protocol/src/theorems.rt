@@ -5,16 +5,11 @@ ghost use Rattle.protocol.specs.Relation.{StepsExactly};
 ghost use Rattle.protocol.specs.Room.{HasRoom, StaysBounded};
 use station::Station;
 
-// The hall's run and the orderly run agree.
-pub fn runs_agree<S: Station>() -> u8
-    ensures { λ _. ⌜ Agrees (S·Station .meaning) ⌝ }
-{
-    0
-}
-
-// What is kept up to a pivot stays.
-pub fn pivots_stay<S: Station>() -> u8
-    ensures { λ _. ⌜ Stays (S·Station .meaning) ⌝ }
+// The promise, whole: after every list of calls and scan lists, served or refused, from the making of a hall on, the hall's run and
+// the orderly run agree; and what a process had kept up to its pivot stays, whatever comes after.
+pub fn runs_agree_and_pivots_stay<S: Station>() -> u8
+    ensures agree { λ _. ⌜ Agrees (S·Station .meaning) ⌝ }
+    ensures stay { λ _. ⌜ Stays (S·Station .meaning) ⌝ }
 {
     0
 }

@@ -1,5 +1,5 @@
-use Rattle.protocol.proofs.Exact.{exact}
-use Rattle.protocol.proofs.Outcomes.{calls-exactly, scans-exactly}
+use Rattle.protocol.proofs.StepsExact.{exact}
+use Rattle.protocol.proofs.CallsExact.{calls-exactly, scans-exactly}
 use Rattle.protocol.proofs.theorems.calls_have_one_outcome.Needs as need
 
 pub returns : need.returns

@@ -1,4 +1,4 @@
--- A step comes to just one thing: what the rules allow. Assumes nothing.
+-- A step comes to just one thing: what the rules allow.
 use mathlib.Core.Path.{_≡_, refl, sym, ap, subst, _∙_}
 use mathlib.Core.Bool.{Bool, true, false, not, cond, _&&_, _||_}
 use mathlib.Core.List.{List, [], _∷_, _++_, map}
@@ -24,8 +24,8 @@ use Rattle.protocol.specs.Hall.{Process, Hall, least, past-pivot, with-process
 use Rattle.protocol.specs.Rules.{blocks-back, blocks-plain, blocks-pivot, blocks-alone, blocks-commit, everybody, nobody, pivot-marks, marked, Outcome, answered, waits, unless-blocked, performed, restarted, gone, turning, undone, committing, backward, forward, by-standing, led, failed}
 use Rattle.protocol.specs.Relation.{In, Retreats, Advances, Past, ToTakeBack, NoneToTakeBack, BlocksBack, BlocksPlain, BlocksPivot, BlocksCommit, Nobody, Smallest, Marked, Free, free-plain, free-pivot, Steps, waits-back, takes-back, restarts, leaves, turns-on, waits-plain, waits-alone, waits-pivot, performs, fails, waits-commit, commits, Exact}
 use Rattle.protocol.proofs.Members.{in-here}
-use Rattle.protocol.proofs.Lasts.{NotOf, Last, Loose, LooseIs, loose-is}
-use Rattle.protocol.proofs.Tests.{OfOthers, back-tells, plain-tells, pivot-tells, pivot-marks-tell, everybody-tells, alone-tells, commit-tells, nobody-from, smallest-from, nobody-to, smallest-to, marked-from, marked-to, unmarked}
+use Rattle.protocol.proofs.LastRecords.{NotOf, Last, Loose, LooseIs, loose-is}
+use Rattle.protocol.proofs.Blocking.{OfOthers, back-tells, plain-tells, pivot-tells, pivot-marks-tell, everybody-tells, alone-tells, commit-tells, nobody-from, smallest-from, nobody-to, smallest-to, marked-from, marked-to, unmarked}
 
 -- the record to take back is the one that is found
 
@@ -47,7 +47,7 @@ loose-some : (n : ℕ) (log : List Record) (z : Split) → loose n log ≡ Some 
 loose-some n log z e = loose-from n log z (subst (LooseIs n log) e (loose-is n log))
 
 loose-none : (n : ℕ) (log : List Record) → loose n log ≡ None → NoneToTakeBack n log
-loose-none n log e z t = Rattle.protocol.proofs.Finds.none-some (sym e ∙ loose-to n log z t)
+loose-none n log e z t = Rattle.protocol.proofs.Processes.none-some (sym e ∙ loose-to n log z t)
 
 none-loose : (n : ℕ) (log : List Record) → NoneToTakeBack n log → loose n log ≡ None
 none-loose n log free = go (loose n log) refl

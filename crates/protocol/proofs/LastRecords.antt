@@ -1,4 +1,4 @@
--- The last record of a process, and those up to its last pivot. Assumes nothing.
+-- The last record of a process, and those up to its last pivot.
 use mathlib.Core.Path.{_≡_, refl, sym, ap, subst, _∙_}
 use mathlib.Core.Bool.{Bool, true, false, not, cond, _&&_, _||_}
 use mathlib.Core.List.{List, [], _∷_, _++_, map}
@@ -11,7 +11,7 @@ use Rattle.std.proofs.shelf.Tests.{eqb-true, eqb-false, eq-eqb, or-parts, true�
 use Rattle.protocol.specs.declared.record.Record.{Record}
 use Rattle.protocol.specs.Log.{any, owned, own, Split, rejoined, removed, or-here, last-of, unless-pivot, loose, pivoted, from-pivot}
 use Rattle.protocol.proofs.Members.{In, some-any, in-here}
-use Rattle.protocol.proofs.Finds.{some-same, none-some}
+use Rattle.protocol.proofs.Processes.{some-same, none-some}
 
 abbrev pub NotOf : ℕ → List Record → Type 0
 NotOf n log = (r : Record) → In r log → r .start ≡ n → ⊥

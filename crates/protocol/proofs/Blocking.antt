@@ -1,4 +1,4 @@
--- The tests of the rules, and what they tell. Assumes nothing.
+-- The tests of the rules, and what they tell.
 use mathlib.Core.Path.{_≡_, refl, sym, ap, subst, _∙_}
 use mathlib.Core.Bool.{Bool, true, false, not, cond, _&&_, _||_}
 use mathlib.Core.List.{List, [], _∷_, _++_, map}
@@ -21,7 +21,7 @@ use Rattle.protocol.specs.Hall.{Process, Hall, least, lower, stand, past-pivot
 use Rattle.protocol.specs.Rules.{touches, meets, precedes, other, younger, blocks-back, blocks-plain, blocks-pivot, blocks-alone, blocks-commit, everybody, nobody, pivot-marks, marked}
 use Rattle.protocol.specs.Relation.{In, Before, Each, Retreats, Past, Runs, InConflict, BlocksBack, BlocksPlain, BlocksPivot, BlocksCommit, Nobody, Smallest, Marks, Marked}
 use Rattle.protocol.proofs.Members.{some-any}
-use Rattle.protocol.proofs.Finds.{none-some, some-same}
+use Rattle.protocol.proofs.Processes.{none-some, some-same}
 
 -- the test is true just where A holds
 pub record Tells (b : Bool) (A : Type 0) : Type 0 where

@@ -1,4 +1,4 @@
--- What a call can come to, once for all proofs about calls. Assumes nothing.
+-- What a call can come to, once for all proofs about calls.
 use mathlib.Core.Path.{_≡_, refl, sym, ap, subst, _∙_}
 use mathlib.Core.Bool.{Bool, true, false, _&&_}
 use mathlib.Core.List.{List, map}
@@ -24,7 +24,7 @@ use Rattle.protocol.specs.Log.{Split, loose}
 use Rattle.protocol.specs.Hall.{Process, Hall, find, least, with-processes, changed, stand}
 use Rattle.protocol.specs.Rules.{blocks-back, blocks-plain, blocks-pivot, blocks-alone, blocks-commit, everybody, nobody, pivot-marks, marked, Outcome, answered, waits, unless-blocked, performed, restarted, gone, turning, undone, committing, backward, forward, by-standing, step-of}
 use Rattle.protocol.specs.Calls.{Call, loading, installing, opening, stepping, cancelling, refused-or, against-load, against-open, loaded, opened, cancel-by, cancel-of, outcome}
-use Rattle.protocol.proofs.Finds.{found-start, nobody-passes}
+use Rattle.protocol.proofs.Processes.{found-start, nobody-passes}
 
 module _ {S : Type 0} (M : Meaning S) (h : Hall S) where
   -- an active process, found under its number

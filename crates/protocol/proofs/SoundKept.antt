@@ -1,4 +1,4 @@
--- Every call keeps a hall sound. Assumes nothing.
+-- Every call keeps a hall sound.
 use mathlib.Core.Path.{_≡_, refl, sym, ap, subst, _∙_}
 use mathlib.Core.Bool.{Bool, true, false, not, cond, _&&_, _||_}
 use mathlib.Core.List.{List, [], _∷_, _++_, map}
@@ -24,13 +24,13 @@ use Rattle.protocol.specs.Log.{Split, loose, own, from-pivot, pivoted}
 use Rattle.protocol.specs.Hall.{Process, Hall, find, past-pivot, retreating, stand, move, beginning}
 use Rattle.protocol.specs.Rules.{touches, meets, precedes, other, younger, blocks-back, blocks-plain, blocks-pivot, blocks-alone, blocks-commit, performed, failed}
 use Rattle.protocol.specs.Calls.{Call, outcome, ends}
-use Rattle.protocol.proofs.Finds.{found-start}
-use Rattle.protocol.proofs.Lasts.{loose-is, LooseIs, NotOf}
-use Rattle.protocol.proofs.Cases.{Going, Backing, Passes, Leaves, cases}
+use Rattle.protocol.proofs.Processes.{found-start}
+use Rattle.protocol.proofs.LastRecords.{loose-is, LooseIs, NotOf}
+use Rattle.protocol.proofs.CallCases.{Going, Backing, Passes, Leaves, cases}
 use Rattle.protocol.proofs.Sound.{rowless, Placed, Sound}
-use Rattle.protocol.proofs.Changes.{Alike, sound-changed, sound-marked, sound-gone, sound-opened, sound-loaded, begins}
-use Rattle.protocol.proofs.Heart.{Clear, First, How, same, first, sound-done, sound-undone, sound-committed}
-use Rattle.protocol.proofs.Steps.{Plain, Crossing, NextFits, running-fits, past-fits, failed-placed, into-placed, back-rowless, withdrawing-rowless, load-fits}
+use Rattle.protocol.proofs.StandingChanges.{Alike, sound-changed, sound-marked, sound-gone, sound-opened, sound-loaded, begins}
+use Rattle.protocol.proofs.LogChanges.{Clear, First, How, same, first, sound-done, sound-undone, sound-committed}
+use Rattle.protocol.proofs.ProgramFits.{Plain, Crossing, NextFits, running-fits, past-fits, failed-placed, into-placed, back-rowless, withdrawing-rowless, load-fits}
 
 -- another process that does not block
 clears : (p q : Process) (b : Bool) → (q .start ≡ p .start → ⊥) → (other p q && b) ≡ false → b ≡ false

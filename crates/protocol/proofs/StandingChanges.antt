@@ -1,4 +1,4 @@
--- What does not touch the log keeps a hall sound. Assumes nothing.
+-- What does not touch the log keeps a hall sound.
 use mathlib.Core.Path.{_≡_, refl, sym, ap, subst, _∙_}
 use mathlib.Core.Bool.{Bool, true, false, not, cond, _&&_, _||_}
 use mathlib.Core.List.{List, [], _∷_, _++_, map}
@@ -25,8 +25,8 @@ use Rattle.protocol.specs.Hall.{Process, Hall, fresh, find, without, change, c
 use Rattle.protocol.specs.Rules.{marked, restarted, gone, turning, failed}
 use Rattle.protocol.specs.Calls.{loaded, opened}
 use Rattle.protocol.proofs.Members.{In, Before, any-none, none-any}
-use Rattle.protocol.proofs.Finds.{found-start, find-map, from-map, to-map, change-keeps, from-changed, find-without, from-without, from-push, to-push, some-same, none-some}
-use Rattle.protocol.proofs.Lasts.{NotOf}
+use Rattle.protocol.proofs.Processes.{found-start, find-map, from-map, to-map, change-keeps, from-changed, find-without, from-without, from-push, to-push, some-same, none-some}
+use Rattle.protocol.proofs.LastRecords.{NotOf}
 use Rattle.protocol.proofs.Sound.{FitsBody, FitsChoices, FitsRest, rowless, Placed, Owner, Active, Sound}
 
 -- a process that changed counts as before

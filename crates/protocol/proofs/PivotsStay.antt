@@ -1,4 +1,4 @@
--- What a process has kept up to its last pivot stays. Assumes nothing.
+-- What a process has kept up to its last pivot stays.
 use mathlib.Core.Path.{_≡_, refl, sym, ap, subst, _∙_}
 use mathlib.Core.Bool.{Bool, true, false, not, cond, _&&_, _||_}
 use mathlib.Core.List.{List, [], _∷_, _++_, map, append-assoc, append-nil}
@@ -18,14 +18,14 @@ use Rattle.protocol.specs.declared.standing.Standing.the-variants.{Running, Wi
 use Rattle.station.specs.Meaning.{Meaning}
 use Rattle.program.specs.Positions.{Position}
 use Rattle.protocol.specs.Ahead.{Next, nothing, plain, crossing, next}
-use Rattle.protocol.specs.Log.{any, Split, owned, own, rejoined, removed, loose, to-pivot, sealed}
+use Rattle.protocol.specs.Log.{any, Split, owned, own, rejoined, removed, loose, to-pivot, committed-under}
 use Rattle.protocol.specs.Hall.{Process, Hall, find, least}
 use Rattle.protocol.specs.Rules.{performed}
 use Rattle.protocol.specs.Calls.{Call, outcome, ends}
-use Rattle.protocol.proofs.Cases.{cases}
-use Rattle.protocol.specs.Statements.{bare, Begins}
+use Rattle.protocol.proofs.CallCases.{cases}
+use Rattle.protocol.specs.Statements.{without-commit-number, Begins}
 use Rattle.protocol.proofs.Members.{In}
-use Rattle.protocol.proofs.Lasts.{NotOf, Loose, LooseIs, loose-is}
+use Rattle.protocol.proofs.LastRecords.{NotOf, Loose, LooseIs, loose-is}
 
 -- beginnings of lists
 
@@ -100,10 +100,10 @@ pub data Turn (log : List Record) : List Record → Type 0 where
   stays : Turn log log
   pushed : (r : Record) → Turn log (log ++ r ∷ [])
   taken : (n : ℕ) (z : Split) → Loose n log z → Turn log (removed z)
-  seals : (n c : ℕ) → Turn log (map (sealed n c) log)
+  seals : (n c : ℕ) → Turn log (map (committed-under n c) log)
 
 abbrev pub Grows : List Record → List Record → Type 0
-Grows old new = (n : ℕ) → Begins (map bare (firm n old)) (map bare (firm n new))
+Grows old new = (n : ℕ) → Begins (map without-commit-number (firm n old)) (map without-commit-number (firm n new))
 
 grows-taken : (m : ℕ) (log : List Record) (z : Split) → Loose m log z → (n : ℕ) → firm n log ≡ firm n (removed z)
 grows-taken m log z l n = ap (firm n) (l .last .whole) ∙ go (cases-eq m n)
@@ -123,7 +123,7 @@ module _ (m c : ℕ) where
   with-commit : Record → Record
   with-commit r = record { start = r .start; activity = r .activity; answer = r .answer; commit = c; pivot = r .pivot }
 
-  sealed-owned : (n : ℕ) (r : Record) → owned n (sealed m c r) ≡ owned n r
+  sealed-owned : (n : ℕ) (r : Record) → owned n (committed-under m c r) ≡ owned n r
   unfolding with-commit
   sealed-owned n r = go (owned m r)
     where
@@ -131,7 +131,7 @@ module _ (m c : ℕ) where
       go true = refl
       go false = refl
 
-  sealed-pivot : (r : Record) → sealed m c r .pivot ≡ r .pivot
+  sealed-pivot : (r : Record) → committed-under m c r .pivot ≡ r .pivot
   unfolding with-commit
   sealed-pivot r = go (owned m r)
     where
@@ -139,39 +139,39 @@ module _ (m c : ℕ) where
       go true = refl
       go false = refl
 
-  sealed-bare : (r : Record) → bare (sealed m c r) ≡ bare r
+  sealed-bare : (r : Record) → without-commit-number (committed-under m c r) ≡ without-commit-number r
   unfolding with-commit
   sealed-bare r = go (owned m r)
     where
-      go : (b : Bool) → bare (cond b (with-commit r) r) ≡ bare r
+      go : (b : Bool) → without-commit-number (cond b (with-commit r) r) ≡ without-commit-number r
       go true = refl
       go false = refl
 
-  pub own-sealed : (n : ℕ) (xs : List Record) → own n (map (sealed m c) xs) ≡ map (sealed m c) (own n xs)
+  pub own-sealed : (n : ℕ) (xs : List Record) → own n (map (committed-under m c) xs) ≡ map (committed-under m c) (own n xs)
   own-sealed n [] = refl
-  own-sealed n (x ∷ xs) = ap (λ b. cond b (sealed m c x ∷ own n (map (sealed m c) xs)) (own n (map (sealed m c) xs))) (sealed-owned n x) ∙ go (owned n x) (own-sealed n xs)
+  own-sealed n (x ∷ xs) = ap (λ b. cond b (committed-under m c x ∷ own n (map (committed-under m c) xs)) (own n (map (committed-under m c) xs))) (sealed-owned n x) ∙ go (owned n x) (own-sealed n xs)
     where
-      go : (b : Bool) → own n (map (sealed m c) xs) ≡ map (sealed m c) (own n xs) → cond b (sealed m c x ∷ own n (map (sealed m c) xs)) (own n (map (sealed m c) xs)) ≡ map (sealed m c) (cond b (x ∷ own n xs) (own n xs))
-      go true e = ap (λ l. sealed m c x ∷ l) e
+      go : (b : Bool) → own n (map (committed-under m c) xs) ≡ map (committed-under m c) (own n xs) → cond b (committed-under m c x ∷ own n (map (committed-under m c) xs)) (own n (map (committed-under m c) xs)) ≡ map (committed-under m c) (cond b (x ∷ own n xs) (own n xs))
+      go true e = ap (λ l. committed-under m c x ∷ l) e
       go false e = e
 
-  any-sealed : (xs : List Record) → any (λ r. r .pivot) (map (sealed m c) xs) ≡ any (λ r. r .pivot) xs
+  any-sealed : (xs : List Record) → any (λ r. r .pivot) (map (committed-under m c) xs) ≡ any (λ r. r .pivot) xs
   any-sealed [] = refl
   any-sealed (x ∷ xs) = λ i. sealed-pivot x i || any-sealed xs i
 
-  pub pivot-sealed : (xs : List Record) → map bare (to-pivot (map (sealed m c) xs)) ≡ map bare (to-pivot xs)
+  pub pivot-sealed : (xs : List Record) → map without-commit-number (to-pivot (map (committed-under m c) xs)) ≡ map without-commit-number (to-pivot xs)
   pivot-sealed [] = refl
-  pivot-sealed (x ∷ xs) = ap (λ b. map bare (cond b (sealed m c x ∷ to-pivot (map (sealed m c) xs)) [])) (λ i. sealed-pivot x i || any-sealed xs i) ∙ go (x .pivot || any (λ r. r .pivot) xs) (pivot-sealed xs)
+  pivot-sealed (x ∷ xs) = ap (λ b. map without-commit-number (cond b (committed-under m c x ∷ to-pivot (map (committed-under m c) xs)) [])) (λ i. sealed-pivot x i || any-sealed xs i) ∙ go (x .pivot || any (λ r. r .pivot) xs) (pivot-sealed xs)
     where
-      go : (b : Bool) → map bare (to-pivot (map (sealed m c) xs)) ≡ map bare (to-pivot xs) → map bare (cond b (sealed m c x ∷ to-pivot (map (sealed m c) xs)) []) ≡ map bare (cond b (x ∷ to-pivot xs) [])
+      go : (b : Bool) → map without-commit-number (to-pivot (map (committed-under m c) xs)) ≡ map without-commit-number (to-pivot xs) → map without-commit-number (cond b (committed-under m c x ∷ to-pivot (map (committed-under m c) xs)) []) ≡ map without-commit-number (cond b (x ∷ to-pivot xs) [])
       go true e = λ i. sealed-bare x i ∷ e i
       go false e = refl
 
 pub grows : {old new : List Record} → Turn old new → Grows old new
-grows {old} stays n = begins-same (map bare (firm n old))
-grows {old} (pushed r) n = begins-map bare (firm n old) (firm n (old ++ r ∷ [])) (subst (λ l. Begins (firm n old) (to-pivot l)) (sym (kept-append (owned n) old (r ∷ []))) (pivot-longer (own n old) (own n (r ∷ []))))
-grows {old} (taken m z l) n = subst (λ x. Begins (map bare (firm n old)) (map bare x)) (grows-taken m old z l n) (begins-same (map bare (firm n old)))
-grows {old} (seals m c) n = subst (λ x. Begins (map bare (firm n old)) x) (sym (ap (λ l. map bare (to-pivot l)) (own-sealed m c n old) ∙ pivot-sealed m c (own n old))) (begins-same (map bare (firm n old)))
+grows {old} stays n = begins-same (map without-commit-number (firm n old))
+grows {old} (pushed r) n = begins-map without-commit-number (firm n old) (firm n (old ++ r ∷ [])) (subst (λ l. Begins (firm n old) (to-pivot l)) (sym (kept-append (owned n) old (r ∷ []))) (pivot-longer (own n old) (own n (r ∷ []))))
+grows {old} (taken m z l) n = subst (λ x. Begins (map without-commit-number (firm n old)) (map without-commit-number x)) (grows-taken m old z l n) (begins-same (map without-commit-number (firm n old)))
+grows {old} (seals m c) n = subst (λ x. Begins (map without-commit-number (firm n old)) x) (sym (ap (λ l. map without-commit-number (to-pivot l)) (own-sealed m c n old) ∙ pivot-sealed m c (own n old))) (begins-same (map without-commit-number (firm n old)))
 
 -- each call turns the log so
 
@@ -198,39 +198,5 @@ module _ {S : Type 0} (M : Meaning S) where
   }
 
   pub grows-ends : (h : Hall S) (cs : List Call) → Grows (h .log) (ends M h cs .log)
-  grows-ends h [] n = begins-same (map bare (firm n (h .log)))
-  grows-ends h (c ∷ cs) n = begins-more (map bare (firm n (h .log))) (map bare (firm n (outcome M h c .hall .log))) (map bare (firm n (ends M (outcome M h c .hall) cs .log))) (grows (turns h c) n) (grows-ends (outcome M h c .hall) cs n)
-
--- sorting keeps each process's records in their order
-
-in-insert : (first : Record → Record → Bool) (x r : Record) (xs : List Record) → In x (insert first r xs) → (x ≡ r) ⊎ In x xs
-in-insert first x r [] i = i
-in-insert first x r (y ∷ ys) i = go (first r y) i (in-insert first x r ys)
-  where
-    go : (b : Bool) → In x (cond b (r ∷ y ∷ ys) (y ∷ insert first r ys)) → (In x (insert first r ys) → (x ≡ r) ⊎ In x ys) → (x ≡ r) ⊎ In x (y ∷ ys)
-    go true j again = j
-    go false (inl e) again = inr (inl e)
-    go false (inr j) again = ⊎-elim inl (λ k. inr (inr k)) (again j)
-
-in-sort : (first : Record → Record → Bool) (x : Record) (xs : List Record) → In x (sort first xs) → In x xs
-in-sort first x [] i = i
-in-sort first x (y ∷ ys) i = ⊎-elim inl (λ j. inr (in-sort first x ys j)) (in-insert first x y (sort first ys) i)
-
-own-insert : (n : ℕ) (first : Record → Record → Bool) (r : Record) (xs : List Record) → ((x : Record) → In x xs → r .start ≡ x .start → first r x ≡ true) → own n (insert first r xs) ≡ own n (r ∷ xs)
-own-insert n first r [] kin = refl
-own-insert n first r (x ∷ xs) kin = go (first r x) refl (own-insert n first r xs (λ y i. kin y (inr i)))
-  where
-    apart : (b c : Bool) → owned n r ≡ b → owned n x ≡ c → first r x ≡ false → cond c (x ∷ cond b (r ∷ own n xs) (own n xs)) (cond b (r ∷ own n xs) (own n xs)) ≡ cond b (r ∷ cond c (x ∷ own n xs) (own n xs)) (cond c (x ∷ own n xs) (own n xs))
-    apart true true p q f = absurd (true≢false (sym (kin x (inl refl) (eqb-true (r .start) n p ∙ sym (eqb-true (x .start) n q))) ∙ f))
-    apart true false p q f = refl
-    apart false c p q f = refl
-
-    go : (b : Bool) → first r x ≡ b → own n (insert first r xs) ≡ own n (r ∷ xs) → own n (cond b (r ∷ x ∷ xs) (x ∷ insert first r xs)) ≡ own n (r ∷ x ∷ xs)
-    go true f again = refl
-    go false f again = ap (λ l. cond (owned n x) (x ∷ l) l) again ∙ apart (owned n r) (owned n x) refl refl f
-
-pub own-sort : (n : ℕ) (first : Record → Record → Bool) (xs : List Record) → ((a b : Record) → In a xs → In b xs → a .start ≡ b .start → first a b ≡ true) → own n (sort first xs) ≡ own n xs
-own-sort n first [] kin = refl
-own-sort n first (x ∷ xs) kin =
-    own-insert n first x (sort first xs) (λ y i e. kin x y (inl refl) (inr (in-sort first y xs i)) e)
-    ∙ ap (λ l. cond (owned n x) (x ∷ l) l) (own-sort n first xs (λ a b i j. kin a b (inr i) (inr j)))
+  grows-ends h [] n = begins-same (map without-commit-number (firm n (h .log)))
+  grows-ends h (c ∷ cs) n = begins-more (map without-commit-number (firm n (h .log))) (map without-commit-number (firm n (outcome M h c .hall .log))) (map without-commit-number (firm n (ends M (outcome M h c .hall) cs .log))) (grows (turns h c) n) (grows-ends (outcome M h c .hall) cs n)

@@ -1,4 +1,4 @@
--- A step done, a step taken back and a commit keep a hall sound. Assumes nothing.
+-- A step done, a step taken back and a commit keep a hall sound.
 use mathlib.Core.Path.{_≡_, refl, sym, ap, subst, _∙_, fun-ext}
 use mathlib.Core.Bool.{Bool, true, false, not, cond, _&&_, _||_}
 use mathlib.Core.List.{List, [], _∷_, _++_, map}
@@ -20,13 +20,13 @@ use Rattle.protocol.specs.declared.standing.Standing.the-variants.{Running, Wi
 use Rattle.station.specs.Meaning.{Meaning}
 use Rattle.protocol.specs.Means.{actions, Laws, Does, conflicting}
 use Rattle.program.specs.Positions.{Position}
-use Rattle.protocol.specs.Log.{any, owned, own, Split, rejoined, removed, pivoted, group, number, prior, sealed, from-pivot}
+use Rattle.protocol.specs.Log.{any, owned, own, Split, rejoined, removed, pivoted, group, number, prior, committed-under, from-pivot}
 use Rattle.protocol.specs.Hall.{Process, Hall, find, without, change, changed, stand, move, past-pivot}
 use Rattle.protocol.specs.Rules.{touches, meets, precedes, record-of, led, performed, undone, committing}
 use Rattle.protocol.proofs.Members.{In, Before, all-from, before-first, before-second, in-push, before-push, in-more, before-more, before-here, in-here, in-map, before-map, any-none, none-any, any-push, any-more, any-map, in-kept, any-kept}
-use Rattle.protocol.proofs.Finds.{found-start, from-changed, to-changed, find-without, from-without, without-none, some-same, none-some}
+use Rattle.protocol.proofs.Processes.{found-start, from-changed, to-changed, find-without, from-without, without-none, some-same, none-some}
 use Rattle.protocol.proofs.Ranks.{Rank, committed, pivoting, waiting, rank, Later, later, not-prior}
-use Rattle.protocol.proofs.Lasts.{NotOf, Last, Loose, from-none}
+use Rattle.protocol.proofs.LastRecords.{NotOf, Last, Loose, from-none}
 use Rattle.protocol.proofs.Sound.{rowless, Placed, Owner, Active, Ordered, Sound}
 
 -- a record of a process that conflicts with nothing of a process n in the log
@@ -433,7 +433,7 @@ module _ {S : Type 0} (M : Meaning S) (laws : Laws M) (s : S) where
         after = committing h p .hall
 
         seal : Record → Record
-        seal = sealed (p .start) (suc (h .committed))
+        seal = committed-under (p .start) (suc (h .committed))
 
         with-commit : Record → Record
         with-commit r = record { start = r .start; activity = r .activity; answer = r .answer; commit = suc (h .committed); pivot = r .pivot }

@@ -1,4 +1,4 @@
--- What comes next fits. Assumes nothing.
+-- What comes next fits.
 use mathlib.Core.Path.{_≡_, refl, sym, ap, subst, _∙_}
 use mathlib.Core.Bool.{Bool, true, false, not, cond, _&&_, _||_}
 use mathlib.Core.List.{List, [], _∷_, _++_, map}
@@ -26,7 +26,7 @@ use Rattle.protocol.specs.Log.{any}
 use lib.Dec.{eqb, ltb}
 use Rattle.protocol.specs.declared.answer.Refusal.the-variants.{NoPlace, Busy}
 use Rattle.protocol.specs.Calls.{else, fits, fault, faults, against-load}
-use Rattle.protocol.proofs.Finds.{none-some}
+use Rattle.protocol.proofs.Processes.{none-some}
 use Rattle.protocol.proofs.Sound.{FitsRow, FitsBody, FitsChoices, FitsRest, rowless, Placed}
 
 module _ {S : Type 0} (M : Meaning S) where

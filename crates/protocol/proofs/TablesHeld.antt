@@ -1,4 +1,4 @@
--- Every call keeps a hall's tables in order, whatever the station means. Assumes nothing.
+-- Every call keeps a hall's tables in order, whatever the station means.
 use mathlib.Core.Path.{_≡_, refl, sym, ap, subst, _∙_}
 use mathlib.Core.Bool.{Bool, true, false, not, cond, _&&_, _||_}
 use mathlib.Core.List.{List, [], _∷_, _++_, map}
@@ -24,16 +24,16 @@ use Rattle.station.specs.Meaning.{Meaning}
 use Rattle.program.specs.Grammar.{Body}
 use Rattle.program.specs.Positions.{Position, alternative-of, into}
 use Rattle.protocol.specs.Ahead.{next, plain, crossing}
-use Rattle.protocol.specs.Log.{Split, owned, own, rejoined, removed, loose, pivoted, sealed}
+use Rattle.protocol.specs.Log.{Split, owned, own, rejoined, removed, loose, pivoted, committed-under}
 use Rattle.protocol.specs.Hall.{Process, Hall, fresh, find, without, changed, stand, move, with-processes, past-pivot, running, beginning}
 use Rattle.protocol.specs.Rules.{marked, performed, failed, led, record-of}
 use Rattle.protocol.specs.Calls.{Call, outcome}
 use Rattle.protocol.specs.Room.{Genuine, Bounded}
 use Rattle.protocol.specs.Held.{Held, Rooms, Roomy}
-use Rattle.protocol.proofs.Cases.{cases, Here}
+use Rattle.protocol.proofs.CallCases.{cases, Here}
 use Rattle.protocol.proofs.Members.{In, in-push, in-more, in-map, any-none}
-use Rattle.protocol.proofs.Finds.{found-start, from-map, to-map, from-changed, to-changed, find-without, from-without, from-push, to-push, some-same, none-some}
-use Rattle.protocol.proofs.Lasts.{NotOf, Last, Loose, LooseIs, loose-is}
+use Rattle.protocol.proofs.Processes.{found-start, from-map, to-map, from-changed, to-changed, find-without, from-without, from-push, to-push, some-same, none-some}
+use Rattle.protocol.proofs.LastRecords.{NotOf, Last, Loose, LooseIs, loose-is}
 use Rattle.protocol.proofs.Rooms.{rooms-by, rooms-done, few}
 use Rattle.protocol.proofs.Counts.{length-push, NextRoom, next-room}
 use Rattle.protocol.proofs.Bounds.{bounded-outcome}
@@ -64,21 +64,21 @@ led-plain : (b : Bool) (st : Standing) → past-pivot (led b st) ≡ false → b
 led-plain true st e = absurd (true≢false e)
 led-plain false st e = refl
 
-sealed-start : (n c : ℕ) (r : Record) → sealed n c r .start ≡ r .start
+sealed-start : (n c : ℕ) (r : Record) → committed-under n c r .start ≡ r .start
 sealed-start n c r = go (owned n r)
   where
     go : (b : Bool) → cond b record { start = r .start; activity = r .activity; answer = r .answer; commit = c; pivot = r .pivot } r .start ≡ r .start
     go true = refl
     go false = refl
 
-sealed-pivot : (n c : ℕ) (r : Record) → sealed n c r .pivot ≡ r .pivot
+sealed-pivot : (n c : ℕ) (r : Record) → committed-under n c r .pivot ≡ r .pivot
 sealed-pivot n c r = go (owned n r)
   where
     go : (b : Bool) → cond b record { start = r .start; activity = r .activity; answer = r .answer; commit = c; pivot = r .pivot } r .pivot ≡ r .pivot
     go true = refl
     go false = refl
 
-sealed-open : (n c : ℕ) (r : Record) → sealed n (suc c) r .commit ≡ 0 → (r .commit ≡ 0) × (r .start ≡ n → ⊥)
+sealed-open : (n c : ℕ) (r : Record) → committed-under n (suc c) r .commit ≡ 0 → (r .commit ≡ 0) × (r .start ≡ n → ⊥)
 sealed-open n c r e = go (owned n r) refl e
   where
     go : (b : Bool) → eqb (r .start) n ≡ b → cond b record { start = r .start; activity = r .activity; answer = r .answer; commit = suc c; pivot = r .pivot } r .commit ≡ 0 → (r .commit ≡ 0) × (r .start ≡ n → ⊥)
@@ -168,14 +168,14 @@ module _ {S : Type 0} where
   owned-committed h o p =
       let c = suc (h .committed) in
       record {
-        low = λ r i. let (x, at, is) = in-map (sealed (p .start) c) r (h .log) i in subst (λ n. n ≤ h .given) (sym (ap (λ y. y .start) is ∙ sealed-start (p .start) c x)) (o .low x at);
+        low = λ r i. let (x, at, is) = in-map (committed-under (p .start) c) r (h .log) i in subst (λ n. n ≤ h .given) (sym (ap (λ y. y .start) is ∙ sealed-start (p .start) c x)) (o .low x at);
         active = λ r i z.
-            let (x, at, is) = in-map (sealed (p .start) c) r (h .log) i in
+            let (x, at, is) = in-map (committed-under (p .start) c) r (h .log) i in
             let (zero-of, off) = sealed-open (p .start) (h .committed) x (ap (λ y. y .commit) (sym is) ∙ z) in
             let (q, e) = o .active x at zero-of in
             (q, ap (λ k. find k (without (p .start) (h .processes))) (ap (λ y. y .start) is ∙ sealed-start (p .start) c x) ∙ find-without (p .start) (x .start) (h .processes) off ∙ e);
         unpivoted = λ n q e past r i mine.
-            let (x, at, is) = in-map (sealed (p .start) c) r (h .log) i in
+            let (x, at, is) = in-map (committed-under (p .start) c) r (h .log) i in
             ap (λ y. y .pivot) is ∙ sealed-pivot (p .start) c x ∙ o .unpivoted n q (from-without (p .start) n (h .processes) q e .1) past x at (sym (ap (λ y. y .start) is ∙ sealed-start (p .start) c x) ∙ mine);
       }
 

@@ -1,4 +1,4 @@
--- The two rules. Assumes nothing.
+-- The two rules.
 use mathlib.Core.Path.{_≡_, refl, sym, ap, subst, _∙_}
 use mathlib.Core.Bool.{Bool, true, false, not, cond, _&&_, _||_}
 use mathlib.Core.List.{List, [], _∷_, _++_, map, append-assoc}
@@ -13,27 +13,29 @@ use Rattle.std.proofs.shelf.Elements.{all-weaker}
 use Rattle.std.proofs.shelf.Tests.{or-left, or-right, or-cases, and-from, and-parts, eq-eqb, eqb-true, le-leb, leb-true, lt-ltb, ltb-true, cases-eq}
 use Rattle.serial.specs.Sorts.{Pairwise, insert, sort}
 use Rattle.serial.specs.Replay.{Replays}
-use Rattle.serial.proofs.Sorting.{all-insert}
+use Rattle.serial.proofs.Sorting.{sort-sorted, sort-stable}
+use Rattle.serial.proofs.Unique.{one-serial-order}
 use Rattle.serial.proofs.Theorems.{sorting-replays}
 use Rattle.protocol.specs.declared.record.Record.{Record}
 use Rattle.station.specs.Meaning.{Meaning}
 use Rattle.protocol.specs.declared.answer.Refusal.the-variants.{LongList}
 use Rattle.protocol.specs.Means.{actions, Laws, Does, conflicting}
-use Rattle.protocol.specs.Log.{own, to-pivot, orderly, prior, pivoted, group, number}
+use Rattle.protocol.specs.Log.{owned, own, to-pivot, orderly, prior, pivoted, group, number}
 use Rattle.protocol.specs.Hall.{Hall, fresh}
 use Rattle.protocol.specs.Calls.{Call, Event, call, scan, singles, all-singles, ends, replies, outcome, one, scanned, call-of, calls-of, and-call, after, after-all}
 use Rattle.protocol.specs.declared.scan.Request.{Request}
 use Rattle.protocol.proofs.Ranks.{Later, later}
 use Rattle.protocol.specs.Book.{Book, empty}
-use Rattle.protocol.specs.Statements.{hall-after, book-after, Agree, Agrees, Orderly, bare, Begins, Stays}
-use Rattle.protocol.proofs.Members.{In, pairs-from}
+use Rattle.protocol.specs.Statements.{hall-after, book-after, Agree, Agrees, Orderly, without-commit-number, Begins, Stays}
+use Rattle.protocol.proofs.Members.{In, pairs-from, all-from, before-first, before-second}
+use Rattle.std.specs.shelf.Lists.{All}
 use Rattle.protocol.proofs.Sound.{Sound}
-use Rattle.protocol.proofs.Changes.{sound-fresh}
-use Rattle.protocol.proofs.Keeps.{sound-ends}
+use Rattle.protocol.proofs.StandingChanges.{sound-fresh}
+use Rattle.protocol.proofs.SoundKept.{sound-ends}
 use Rattle.protocol.proofs.History.{history-is, sound-events}
-use Rattle.protocol.proofs.Firm.{own-sort, grows-ends, pivot-begins, begins-map, begins-more}
-use Rattle.protocol.proofs.Heart.{any-state, commuting}
-use Rattle.protocol.proofs.Unique.{one-run, tied, in-own}
+use Rattle.protocol.proofs.PivotsStay.{grows-ends, pivot-begins, begins-map, begins-more}
+use Rattle.protocol.proofs.LogChanges.{any-state, commuting}
+use Rattle.protocol.proofs.Ties.{tied, in-own}
 
 -- records of one process stand together
 prior-kin : (piv : ℕ → Bool) (a b : Record) → a .start ≡ b .start → a .commit ≡ b .commit → prior piv a b ≡ true
@@ -70,20 +72,8 @@ transitive piv a b c e f = go (prior piv a c) refl
         (λ (x : (group piv a ≡ group piv b) × (number a ≤ number b)). ⊎-elim (λ (y : group piv b < group piv c). omega arith) (λ (y : (group piv b ≡ group piv c) × (number b ≤ number c)). let less = l .within (x .0 ∙ y .0) in omega arith) (cases b c f))
         (cases a b e))
 
-sorted-insert : (piv : ℕ → Bool) (r : Record) (xs : List Record) → Pairwise (λ a b. prior piv a b ≡ true) xs → Pairwise (λ a b. prior piv a b ≡ true) (insert (prior piv) r xs)
-sorted-insert piv r [] s = (tt, tt)
-sorted-insert piv r (x ∷ xs) s = go (prior piv r x) refl (sorted-insert piv r xs (s .1))
-  where
-    go : (t : Bool) → prior piv r x ≡ t → Pairwise (λ a b. prior piv a b ≡ true) (insert (prior piv) r xs) → Pairwise (λ a b. prior piv a b ≡ true) (cond t (r ∷ x ∷ xs) (x ∷ insert (prior piv) r xs))
-    go true e again = ((e, all-weaker (λ y. prior piv x y ≡ true) (λ y. prior piv r y ≡ true) (λ y f. transitive piv r x y e f) xs (s .0)), s)
-    go false e again = (all-insert (λ y. prior piv x y ≡ true) (prior piv) r xs (total piv r x e) (s .0), again)
-
-sorted : (piv : ℕ → Bool) (xs : List Record) → Pairwise (λ a b. prior piv a b ≡ true) (sort (prior piv) xs)
-sorted piv [] = tt
-sorted piv (x ∷ xs) = sorted-insert piv x (sort (prior piv) xs) (sorted piv xs)
-
 sorted-orderly : (log : List Record) → Pairwise (λ a b. prior (pivoted log) a b ≡ true) (orderly log)
-sorted-orderly log = sorted (pivoted log) log
+sorted-orderly log = sort-sorted (prior (pivoted log)) (total (pivoted log)) (transitive (pivoted log)) log
 
 singles-append : (es more : List Event) → all-singles (es ++ more) ≡ all-singles es ++ all-singles more
 singles-append [] more = refl
@@ -127,13 +117,15 @@ module _ {S : Type 0} (M : Meaning S) (laws : Laws M) where
       (sound .replay)
 
   own-orderly : (n : ℕ) (s : S) (h : Hall S) → Sound M s h → own n (orderly (h .log)) ≡ own n (h .log)
-  own-orderly n s h sound = own-sort n (prior (pivoted (h .log))) (h .log) (λ a b i j e. prior-kin (pivoted (h .log)) a b e (sound .kin a b i j e))
+  own-orderly n s h sound = sort-stable (prior (pivoted (h .log))) (owned n) (h .log)
+      (pairs-from (λ a b. owned n a ≡ true → owned n b ≡ true → prior (pivoted (h .log)) a b ≡ true) (h .log)
+      (λ a b i p q. let e = eqb-true (a .start) n p ∙ sym (eqb-true (b .start) n q) in prior-kin (pivoted (h .log)) a b e (sound .kin a b (before-first a b (h .log) i) (before-second a b (h .log) i) e)))
 
   -- and no other run is orderly
   one-orderly : (s : S) (h : Hall S) → Sound M s h → (run : List Record) → Orderly (h .log) run → run ≡ orderly (h .log)
   one-orderly s h sound run o =
-      one-run (pivoted (h .log)) run (orderly (h .log)) (λ n. o .each n ∙ sym (own-orderly n s h sound)) (o .sorted) (sorted-orderly (h .log))
-      (λ a b i j. tied (pivoted (h .log)) a b (sound .numbers a b (in-own run (h .log) (o .each) a i) (in-own (orderly (h .log)) (h .log) (λ n. own-orderly n s h sound) b j)))
+      one-serial-order (prior (pivoted (h .log))) (λ r. r .start) run (orderly (h .log)) (o .sorted) (sorted-orderly (h .log)) (λ n. o .each n ∙ sym (own-orderly n s h sound))
+      (all-from (λ a. All (λ b. prior (pivoted (h .log)) a b ≡ true → prior (pivoted (h .log)) b a ≡ true → a .start ≡ b .start) (orderly (h .log))) run λ a i. all-from (λ b. prior (pivoted (h .log)) a b ≡ true → prior (pivoted (h .log)) b a ≡ true → a .start ≡ b .start) (orderly (h .log)) λ b j. tied (pivoted (h .log)) a b (sound .numbers a b (in-own run (h .log) (o .each) a i) (in-own (orderly (h .log)) (h .log) (λ n. own-orderly n s h sound) b j)))
 
   pub agrees : Agrees M
   agrees s es = record {
@@ -151,9 +143,9 @@ module _ {S : Type 0} (M : Meaning S) (laws : Laws M) where
       let later : hall-after M s (es ++ more) ≡ ends M (hall-after M s es) (all-singles more) = all-is (fresh s) (es ++ more) ∙ ap (ends M (fresh s)) (singles-append es more) ∙ ends-append (fresh s) (all-singles es) (all-singles more) ∙ ap (λ g. ends M g (all-singles more)) (sym (all-is (fresh s) es)) in
       let log = hall-after M s es .log in
       let log′ = ends M (hall-after M s es) (all-singles more) .log in
-      let goes = begins-more (map bare (to-pivot (own n log))) (map bare (to-pivot (own n log′))) (map bare (own n log′)) (grows-ends M (hall-after M s es) (all-singles more) n) (begins-map bare (to-pivot (own n log′)) (own n log′) (pivot-begins (own n log′))) in
-      subst (λ l. Begins (map bare (to-pivot l)) (map bare (own n (orderly (book-after M s (es ++ more) .kept))))) (sym (own-kept n s es))
-      (subst (λ l. Begins (map bare (to-pivot (own n log))) (map bare l)) (sym (own-kept n s (es ++ more) ∙ ap (λ h. own n (h .log)) later)) goes)
+      let goes = begins-more (map without-commit-number (to-pivot (own n log))) (map without-commit-number (to-pivot (own n log′))) (map without-commit-number (own n log′)) (grows-ends M (hall-after M s es) (all-singles more) n) (begins-map without-commit-number (to-pivot (own n log′)) (own n log′) (pivot-begins (own n log′))) in
+      subst (λ l. Begins (map without-commit-number (to-pivot l)) (map without-commit-number (own n (orderly (book-after M s (es ++ more) .kept))))) (sym (own-kept n s es))
+      (subst (λ l. Begins (map without-commit-number (to-pivot (own n log))) (map without-commit-number l)) (sym (own-kept n s (es ++ more) ∙ ap (λ h. own n (h .log)) later)) goes)
 
 -- one call more, for code that keeps track of the calls on it
 pub one-more : {S : Type 0} (M : Meaning S) (s : S) (es : List Event) (e : Event) → hall-after M s (es ++ e ∷ []) ≡ after M (hall-after M s es) e

@@ -32,7 +32,7 @@ use Rattle.protocol.specs.Relation.{In}
 use Rattle.protocol.specs.Calls.{Call, loading, installing, opening, stepping, cancelling, else, fits, fault, faults, committed-records, refused-or, against-load, loaded, against-open, opened, cancel-by, cancel-of, outcome, call-of, written, Scan, one, scanned, scan-outcome}
 use Rattle.protocol.specs.Comes.{Of-kind, Fits, Unfit, no-such-activity, of-another-kind, further-on, Unused, Is-loaded, demand, Comes, load-nowhere, load-busy, load-unfit, loads, install-no-program, installs, open-nowhere, open-not-loaded, open-full, open-no-number, open-no-room, opens, step-nobody, steps, cancel-nobody, cancel-past-pivot, cancel-withdrawing, cancels, Calls-exactly, Works-one, known, unknown, Works, none-left, one-by-one, Scans, too-long, worked, Exactly-one-scan, Scans-exactly}
 use Rattle.protocol.proofs.Members.{some-any, any-none}
-use Rattle.protocol.proofs.Exact.{exact}
+use Rattle.protocol.proofs.StepsExact.{exact}
 
 in-any : {X : Type 0} (p : X → Bool) (xs : List X) → any p xs ≡ true → (x : X) × In x xs × (p x ≡ true)
 in-any p [] e = absurd (false≢true e)
