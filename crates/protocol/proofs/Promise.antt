@@ -25,6 +25,7 @@ use Rattle.protocol.specs.Hall.{Hall, fresh}
 use Rattle.protocol.specs.Calls.{Call, Event, call, scan, singles, all-singles, ends, replies, outcome, one, scanned, call-of, calls-of, and-call, after, after-all}
 use Rattle.protocol.specs.declared.scan.Request.{Request}
 use Rattle.protocol.proofs.Ranks.{Later, later}
+use Rattle.program.specs.Places.{nth}
 use Rattle.protocol.specs.Book.{Book, empty}
 use Rattle.protocol.specs.Statements.{hall-after, book-after, Agree, Agrees, Orderly, without-commit-number, Begins, Stays}
 use Rattle.protocol.proofs.Members.{In, pairs-from, all-from, before-first, before-second}
@@ -133,6 +134,7 @@ module _ {S : Type 0} (M : Meaning S) (laws : Laws M) where
     only = subst (λ l. (run : List Record) → Orderly l run → run ≡ orderly l) (sym (kept-is s es)) (one-orderly s (hall-after M s es) (sound-after s es));
     ordered = subst (λ l. Orderly l (orderly l)) (sym (kept-is s es)) record { each = λ n. own-orderly n s (hall-after M s es) (sound-after s es); sorted = sorted-orderly (hall-after M s es .log) };
     runs = subst (λ l. Replays (Does M) (orderly l) s (hall-after M s es .station)) (sym (kept-is s es)) (sorted-runs s (hall-after M s es) (sound-after s es));
+    asked = λ i. ap (λ l. nth (orderly l) i) (sym (kept-is s es));
   }
 
   own-kept : (n : ℕ) (s : S) (es : List Event) → own n (orderly (book-after M s es .kept)) ≡ own n (hall-after M s es .log)

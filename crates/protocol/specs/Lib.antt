@@ -6,6 +6,7 @@ pub mod Hall
 pub mod Rules
 pub mod Calls
 pub mod Book
+pub mod Questions
 pub mod Statements
 pub mod Relation
 pub mod Comes

@@ -13,6 +13,8 @@ use Rattle.protocol.specs.Means.{Does}
 use Rattle.protocol.specs.Log.{own, to-pivot, orderly, prior, pivoted}
 use Rattle.protocol.specs.Hall.{Hall, fresh}
 use Rattle.protocol.specs.Calls.{Call, Event, call, scan, outcome, scan-outcome, after, after-all}
+use Rattle.program.specs.Places.{nth}
+use Rattle.protocol.specs.Questions.{kept-step}
 use Rattle.protocol.specs.Book.{Book, empty, Told, called, scan-served, scan-refused, book-of}
 
 -- a rearrangement of the kept steps: each process's in the order kept, and by group and number
@@ -43,6 +45,8 @@ module _ {S : Type 0} where
     pub ordered : Orderly (book-after M s es .kept) (orderly (book-after M s es .kept))
     pub only : (run : List Record) → Orderly (book-after M s es .kept) run → run ≡ orderly (book-after M s es .kept)
     pub runs : Replays (Does M) (orderly (book-after M s es .kept)) s (hall-after M s es .station)
+    -- and the question for a kept step is answered by the orderly run
+    pub asked : (i : ℕ) → kept-step (hall-after M s es) i ≡ nth (orderly (book-after M s es .kept)) i
 
   abbrev pub Agrees : Meaning S → Type 0
   Agrees M = (s : S) (es : List Event) → Agree M s es
