@@ -22,7 +22,7 @@ use Rattle.protocol.specs.Ahead.{Next, nothing, plain, crossing, next}
 use Rattle.protocol.specs.Log.{Split, owned, rejoined, removed, or-here, last-of, unless-pivot, loose, pivoted}
 use Rattle.protocol.specs.Hall.{Process, Hall, least, past-pivot, with-processes, going-back}
 use Rattle.protocol.specs.Rules.{blocks-back, blocks-plain, blocks-pivot, blocks-alone, blocks-commit, everybody, nobody, pivot-marks, marked, Outcome, answered, waits, unless-blocked, performed, restarted, gone, turning, undone, committing, backward, forward, by-standing, led, failed}
-use Rattle.protocol.specs.Relation.{In, Retreats, Advances, Past, ToTakeBack, NoneToTakeBack, BlocksBack, BlocksPlain, BlocksPivot, BlocksCommit, Nobody, Smallest, Marked, Free, free-plain, free-pivot, Steps, waits-back, takes-back, restarts, leaves, turns-on, waits-plain, waits-alone, waits-pivot, performs, fails, waits-commit, commits, Exact}
+use Rattle.protocol.specs.Relation.{In, Retreats, Advances, Past, ToTakeBack, NoneToTakeBack, BlocksBack, BlocksPlain, BlocksPivot, BlocksCommit, Nobody, Smallest, Marked, Free, free-plain, free-pivot, Steps, waits-back, takes-back, restarts, leaves, takes-next-alternative, waits-plain, waits-alone, waits-pivot, performs, fails, waits-commit, commits, Exact}
 use Rattle.protocol.proofs.Members.{in-here}
 use Rattle.protocol.proofs.LastRecords.{NotOf, Last, Loose, LooseIs, loose-is}
 use Rattle.protocol.proofs.Blocking.{OfOthers, back-tells, plain-tells, pivot-tells, pivot-marks-tell, everybody-tells, alone-tells, commit-tells, nobody-from, smallest-from, nobody-to, smallest-to, marked-from, marked-to, unmarked}
@@ -146,7 +146,7 @@ module _ {S : Type 0} (M : Meaning S) (h : Hall S) (p : Process) where
   came : (st : Standing) → p .standing ≡ st → Came (by-standing M h p st)
   came Running e = came-forward (subst Advances (sym e) tt) (next (p .at)) refl
   came (PastPivot Forward) e = came-forward (subst Advances (sym e) refl) (next (p .at)) refl
-  came (PastPivot Back) e = came-backward (subst Retreats (sym e) refl) (turning h p) (λ none. (turns.Next (suc (alternative-of (p .at))), refl, turns-on e none)) (loose (p .start) (h .log)) refl
+  came (PastPivot Back) e = came-backward (subst Retreats (sym e) refl) (turning h p) (λ none. (turns.Next (suc (alternative-of (p .at))), refl, takes-next-alternative e none)) (loose (p .start) (h .log)) refl
   came (Withdrawing Restart) e = came-backward (subst Retreats (sym e) tt) (restarted h p) (λ none. (turns.Restarted, refl, restarts e none)) (loose (p .start) (h .log)) refl
   came (Withdrawing End) e = came-backward (subst Retreats (sym e) tt) (gone h p) (λ none. (turns.Gone, refl, leaves e none)) (loose (p .start) (h .log)) refl
 
@@ -197,7 +197,7 @@ module _ {S : Type 0} (M : Meaning S) (h : Hall S) (p : Process) where
       ∙ sym (retreating-to z (loose-to (p .start) (h .log) z take) (p .standing) ret)
   only g t (restarts e none) = sym (ap (by-standing M h p) e ∙ ap (backward M h p (restarted h p)) (none-loose (p .start) (h .log) none))
   only g t (leaves e none) = sym (ap (by-standing M h p) e ∙ ap (backward M h p (gone h p)) (none-loose (p .start) (h .log) none))
-  only g t (turns-on e none) = sym (ap (by-standing M h p) e ∙ ap (backward M h p (turning h p)) (none-loose (p .start) (h .log) none))
+  only g t (takes-next-alternative e none) = sym (ap (by-standing M h p) e ∙ ap (backward M h p (turning h p)) (none-loose (p .start) (h .log) none))
   only g t (waits-plain {a} {to} {n} {ps} adv e small marks) =
       forwards adv (plain a to) e (answered (with-processes h ps) (Stepped (turns.Wait n)))
       (ap (λ l. answered (with-processes h l) (Stepped (turns.Wait n))) (marked-to M p (λ q. blocks-plain (M .conflict) (h .log) p a q && everybody q) (BlocksPlain M h p a) (everybody-tells M p (blocks-plain (M .conflict) (h .log) p a) (BlocksPlain M h p a) (plain-tells M p h a)) (h .processes) ps marks)

@@ -154,13 +154,13 @@ module _ {S : Type 0} where
             (in-push r (h .log) new i);
         unpivoted = λ n q e past r i mine. ⊎-elim
             (λ me. ⊎-elim
-                (λ old. o .unpivoted n p (ap (λ k. find k (h .processes)) (me .0) ∙ is) (led-past pivot (p .standing) (ap (λ x. past-pivot (x .standing)) (sym (me .1)) ∙ past)) r old mine)
-                (λ it. ap (λ x. x .pivot) it ∙ led-plain pivot (p .standing) (ap (λ x. past-pivot (x .standing)) (sym (me .1)) ∙ past))
-                (in-push r (h .log) new i))
+            (λ old. o .unpivoted n p (ap (λ k. find k (h .processes)) (me .0) ∙ is) (led-past pivot (p .standing) (ap (λ x. past-pivot (x .standing)) (sym (me .1)) ∙ past)) r old mine)
+            (λ it. ap (λ x. x .pivot) it ∙ led-plain pivot (p .standing) (ap (λ x. past-pivot (x .standing)) (sym (me .1)) ∙ past))
+            (in-push r (h .log) new i))
             (λ other. ⊎-elim
-                (λ old. o .unpivoted n q (other .1) past r old mine)
-                (λ it. absurd (other .0 (sym mine ∙ ap (λ x. x .start) it)))
-                (in-push r (h .log) new i))
+            (λ old. o .unpivoted n q (other .1) past r old mine)
+            (λ it. absurd (other .0 (sym mine ∙ ap (λ x. x .start) it)))
+            (in-push r (h .log) new i))
             (from-changed (p .start) p f (λ q. refl) (h .processes) is n q e);
       }
 

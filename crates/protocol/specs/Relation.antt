@@ -116,22 +116,22 @@ module _ {S : Type 0} where
   kept h p pivot a to x t = record { station = t; log = h .log ++ record-of p pivot a x ∷ []; processes = changed (p .start) (move (led pivot (p .standing)) to) (h .processes); programs = h .programs; given = h .given; committed = h .committed }
 
   pub data Steps (M : Meaning S) (h : Hall S) (p : Process) : Hall S → Turn → Type 0 where
-    -- 1
+    -- going backward
     waits-back : {z : Split} {n : ℕ} {ps : List Process} → Retreats (p .standing) → ToTakeBack (p .start) (h .log) z → Smallest h p (BlocksBack M z) n → Marked h p (BlocksBack M z) ps → Steps M h p (with-processes h ps) (turns.Wait n)
     takes-back : {z : Split} → Retreats (p .standing) → ToTakeBack (p .start) (h .log) z → Nobody h p (BlocksBack M z)
         → Steps M h p record { station = M .taken-back (h .station) (z .at .activity) (z .at .answer); log = removed z; processes = h .processes; programs = h .programs; given = h .given; committed = h .committed } (turns.Undone (z .at .activity .number))
     restarts : p .standing ≡ Withdrawing Restart → NoneToTakeBack (p .start) (h .log) → Steps M h p (with-processes h (changed (p .start) (move Running (beginning (h .programs) (p .place))) (h .processes))) turns.Restarted
     leaves : p .standing ≡ Withdrawing End → NoneToTakeBack (p .start) (h .log) → Steps M h p (with-processes h (without (p .start) (h .processes))) turns.Gone
-    turns-on : p .standing ≡ PastPivot Back → NoneToTakeBack (p .start) (h .log) → Steps M h p (with-processes h (changed (p .start) (move (PastPivot Forward) (into (suc (alternative-of (p .at))) (p .at))) (h .processes))) (turns.Next (suc (alternative-of (p .at))))
-    -- 2
+    takes-next-alternative : p .standing ≡ PastPivot Back → NoneToTakeBack (p .start) (h .log) → Steps M h p (with-processes h (changed (p .start) (move (PastPivot Forward) (into (suc (alternative-of (p .at))) (p .at))) (h .processes))) (turns.Next (suc (alternative-of (p .at))))
+    -- a step that is no pivot is next
     waits-plain : {a : Activity} {to : Position} {n : ℕ} {ps : List Process} → Advances (p .standing) → next (p .at) ≡ plain a to → Smallest h p (BlocksPlain M h p a) n → Marked h p (BlocksPlain M h p a) ps → Steps M h p (with-processes h ps) (turns.Wait n)
-    -- 3
+    -- a pivot is next
     waits-alone : {a : Activity} {to : Position} {n : ℕ} → Runs p → next (p .at) ≡ crossing a to → Smallest h p Past n → Steps M h p h (turns.Wait n)
     waits-pivot : {a : Activity} {to : Position} {n : ℕ} {ps : List Process} → Advances (p .standing) → next (p .at) ≡ crossing a to → ((Past p → ⊥) → Nobody h p Past) → Smallest h p (BlocksPivot M h p a) n → Marked h p (λ q. BlocksPivot M h p a q × (Past p ⊎ (p .start < q .start))) ps → Steps M h p (with-processes h ps) (turns.Wait n)
-    -- 4
+    -- nobody blocks
     performs : {pivot : Bool} {a : Activity} {to : Position} {x : ℕ} {t : S} → Advances (p .standing) → Free M h p pivot a to → M .performed (h .station) a ≡ Some (x, t) → Steps M h p (kept h p pivot a to x t) (turns.Done x)
     fails : {pivot : Bool} {a : Activity} {to : Position} → Advances (p .standing) → Free M h p pivot a to → M .performed (h .station) a ≡ None → Steps M h p (with-processes h (changed (p .start) (stand (failed (p .standing))) (h .processes))) turns.Failed
-    -- 5
+    -- nothing is next
     waits-commit : {n : ℕ} → Advances (p .standing) → next (p .at) ≡ nothing → Smallest h p (BlocksCommit M h p) n → Steps M h p h (turns.Wait n)
     commits : Advances (p .standing) → next (p .at) ≡ nothing → Nobody h p (BlocksCommit M h p)
         → Steps M h p record { station = h .station; log = map (committed-under (p .start) (suc (h .committed))) (h .log); processes = without (p .start) (h .processes); programs = h .programs; given = h .given; committed = suc (h .committed) } (turns.Committed (suc (h .committed)))
