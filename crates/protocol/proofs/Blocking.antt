@@ -18,7 +18,7 @@ use Rattle.protocol.specs.declared.standing.Standing.the-variants.{Running, Wi
 use Rattle.station.specs.Meaning.{Meaning}
 use Rattle.protocol.specs.Log.{any, owned, own, Split, from-pivot}
 use Rattle.protocol.specs.Hall.{Process, Hall, least, lower, stand, past-pivot, going-back, retreating, running, with-processes}
-use Rattle.protocol.specs.Rules.{touches, meets, precedes, other, younger, blocks-back, blocks-plain, blocks-pivot, blocks-alone, blocks-commit, everybody, nobody, pivot-marks, marked}
+use Rattle.protocol.specs.Rules.{holds-conflict, holds-any-conflict, stands-before-conflict, other, younger, blocks-back, blocks-plain, blocks-pivot, blocks-alone, blocks-commit, everybody, nobody, pivot-marks, marked}
 use Rattle.protocol.specs.Relation.{In, Before, Each, Retreats, Past, Runs, InConflict, BlocksBack, BlocksPlain, BlocksPivot, BlocksCommit, Nobody, Smallest, Marks, Marked}
 use Rattle.protocol.proofs.Members.{some-any}
 use Rattle.protocol.proofs.Processes.{none-some, some-same}
@@ -78,7 +78,7 @@ runs (Withdrawing restart) = record { holds = λ e. absurd (false≢true e); pas
 runs (PastPivot back) = record { holds = λ e. absurd (false≢true e); passes = λ e. ap running e }
 
 module _ {S : Type 0} (M : Meaning S) where
-  conflicts : (log : List Record) (q : Process) (a : ℕ) → Tells (touches (M .conflict) (q .start) a log) (InConflict M log q a)
+  conflicts : (log : List Record) (q : Process) (a : ℕ) → Tells (holds-conflict (M .conflict) (q .start) a log) (InConflict M log q a)
   conflicts log q a = same-as
       (some (λ r. owned (q .start) r && M .conflict (r .activity .number) a) (λ r. (r .start ≡ q .start) × (M .conflict (r .activity .number) a ≡ true)) (λ r. both (equal (r .start) (q .start)) (itself (M .conflict (r .activity .number) a))) log)
       (λ (r, i, h). (r, i, h .0, h .1)) (λ (r, i, h, k). (r, i, (h, k)))
@@ -100,7 +100,7 @@ module _ {S : Type 0} (M : Meaning S) where
         (λ (o, x). (o, (x .1, x .0))) (λ (o, x). (o, (x .1, x .0)))
 
     pub pivot-tells : (h : Hall S) (a : Activity) → OfOthers (blocks-pivot (M .conflict) (h .log) p a) (BlocksPivot M h p a)
-    pivot-tells h a q = both (others q) (either (conflicts (h .log) q (a .number)) (some (λ r. touches (M .conflict) (q .start) (r .activity .number) (h .log)) (λ r. InConflict M (h .log) q (r .activity .number)) (λ r. conflicts (h .log) q (r .activity .number)) (from-pivot (own (p .start) (h .log)))))
+    pivot-tells h a q = both (others q) (either (conflicts (h .log) q (a .number)) (some (λ r. holds-conflict (M .conflict) (q .start) (r .activity .number) (h .log)) (λ r. InConflict M (h .log) q (r .activity .number)) (λ r. conflicts (h .log) q (r .activity .number)) (from-pivot (own (p .start) (h .log)))))
 
     pub pivot-marks-tell : (h : Hall S) (a : Activity) → OfOthers (λ q. blocks-pivot (M .conflict) (h .log) p a q && pivot-marks p q) (λ q. BlocksPivot M h p a q × (Past p ⊎ (p .start < q .start)))
     pivot-marks-tell h a q = same-as
@@ -113,7 +113,7 @@ module _ {S : Type 0} (M : Meaning S) where
     pub alone-tells : past-pivot (p .standing) ≡ false → OfOthers (blocks-alone p) Past
     alone-tells run q = same-as (both (others q) (both (itself (not (past-pivot (p .standing)))) (itself (past-pivot (q .standing))))) (λ (o, x). (o, x .1)) (λ (o, x). (o, (ap not run, x)))
 
-    commits-before : (log : List Record) (q : Process) → Tells (precedes (M .conflict) (q .start) (p .start) log) ((a : Record) × (b : Record) × Before a b log × (a .start ≡ q .start) × (b .start ≡ p .start) × (M .conflict (a .activity .number) (b .activity .number) ≡ true))
+    commits-before : (log : List Record) (q : Process) → Tells (stands-before-conflict (M .conflict) (q .start) (p .start) log) ((a : Record) × (b : Record) × Before a b log × (a .start ≡ q .start) × (b .start ≡ p .start) × (M .conflict (a .activity .number) (b .activity .number) ≡ true))
     commits-before [] q = record { holds = λ e. absurd (false≢true e); passes = λ x. absurd (x .2) }
     commits-before (r ∷ rs) q = same-as
         (either (both (equal (r .start) (q .start)) (some (λ x. owned (p .start) x && M .conflict (r .activity .number) (x .activity .number)) (λ x. (x .start ≡ p .start) × (M .conflict (r .activity .number) (x .activity .number) ≡ true)) (λ x. both (equal (x .start) (p .start)) (itself (M .conflict (r .activity .number) (x .activity .number)))) rs)) (commits-before rs q))

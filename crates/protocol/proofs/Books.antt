@@ -24,9 +24,9 @@ use Rattle.station.specs.Meaning.{Meaning}
 use Rattle.protocol.specs.Means.{Laws}
 use Rattle.program.specs.Positions.{Position, into, alternative-of}
 use Rattle.protocol.specs.Ahead.{Next, nothing, plain, crossing, next}
-use Rattle.protocol.specs.Log.{Split, owned, removed, dropped, last-of, loose, unless-pivot, committed-under, pivoted}
+use Rattle.protocol.specs.Log.{Split, owned, removed, dropped, last-of, returnable, unless-pivot, committed-under, pivoted}
 use Rattle.protocol.specs.Hall.{Process, Hall, fresh, find, without, change, changed, stand, move, with-processes, least, beginning, running, past-pivot}
-use Rattle.protocol.specs.Rules.{marked, Outcome, answered, performed, restarted, gone, turning, undone, committing, failed, led}
+use Rattle.protocol.specs.Rules.{marked, Outcome, answered, performed, restarted, gone, next-alternative, undone, committing, failed, standing-after}
 use Rattle.protocol.specs.Calls.{Call, loading, installing, opening, stepping, cancelling, outcome, ends, replies}
 use Rattle.protocol.proofs.CallCases.{cases}
 use Rattle.protocol.specs.Book.{Entry, Book, empty, seek, struck, at-now, moved, with-entries, keep, keep-next, on-turn, on-step, noted}
@@ -117,7 +117,7 @@ module _ {S : Type 0} (M : Meaning S) (laws : Laws M) (s : S) where
 
   noted-performed : (h : Hall S) (p : Process) (pivot : Bool) (a : Activity) (to : Position) → ((x : ℕ) → keep-next (view h) (p .start) x (next (p .at)) ≡ keep (view h) (p .start) pivot a x to) → (o : Option (ℕ × S)) → on-step (view h) (Some (entry-of p)) (performed h p pivot a to o .answer) ≡ view (performed h p pivot a to o .hall)
   noted-performed h p pivot a to keeps None = ap (with-entries (view h)) (stood (p .start) (failed (p .standing)) (h .processes))
-  noted-performed h p pivot a to keeps (Some d) = keeps (d .0) ∙ ap (λ l. record { programs = h .programs; entries = l; kept = h .log ++ record { start = p .start; activity = a; answer = d .0; commit = 0; pivot = pivot } ∷ [] }) (moved-is (p .start) (led pivot (p .standing)) to (h .processes))
+  noted-performed h p pivot a to keeps (Some d) = keeps (d .0) ∙ ap (λ l. record { programs = h .programs; entries = l; kept = h .log ++ record { start = p .start; activity = a; answer = d .0; commit = 0; pivot = pivot } ∷ [] }) (moved-is (p .start) (standing-after pivot (p .standing)) to (h .processes))
 
   pub noted-is : (h : Hall S) → Sound M s h → (c : Call) → noted (view h) c (outcome M h c .answer) ≡ view (outcome M h c .hall)
   noted-is h sound = cases M h (Noted h) record {
@@ -133,7 +133,7 @@ module _ {S : Type 0} (M : Meaning S) (laws : Laws M) (s : S) where
     takes-back = λ p is b z l free. on-its h p is (undone M h z) (ap (λ o. record { programs = h .programs; entries = map entry-of (h .processes); kept = dropped (h .log) o }) (last-from-loose (last-of (p .start) (h .log)) z l));
     restarts = λ p is e none. on-its h p is (restarted h p) (ap (with-entries (view h)) (moved-is (p .start) Running (beginning (h .programs) (p .place)) (h .processes)));
     leaves = λ p is e none. on-its h p is (gone h p) (λ i. record { programs = h .programs; entries = struck-is (p .start) (h .processes) i; kept = all-kept (p .start) (h .log) (none-left M laws s h sound p is e none) i });
-    turns = λ p is e none. on-its h p is (turning h p) (ap (with-entries (view h)) (moved-is (p .start) (PastPivot Forward) (into (suc (alternative-of (p .at))) (p .at)) (h .processes)));
+    turns = λ p is e none. on-its h p is (next-alternative h p) (ap (with-entries (view h)) (moved-is (p .start) (PastPivot Forward) (into (suc (alternative-of (p .at))) (p .at)) (h .processes)));
   }
     where
       refused : (c : Call) (r : Refusal) → Noted h c (answered h (Refused r))

@@ -24,7 +24,7 @@ use Rattle.station.specs.Meaning.{Meaning}
 use Rattle.protocol.specs.Means.{Laws}
 use Rattle.program.specs.Positions.{Position, into, alternative-of}
 use Rattle.protocol.specs.Hall.{Process, Hall, fresh, find, without, change, changed, stand, move, with-processes, running, beginning}
-use Rattle.protocol.specs.Rules.{marked, performed, failed, led}
+use Rattle.protocol.specs.Rules.{marked, performed, failed, standing-after}
 use Rattle.protocol.specs.Calls.{Call, else, against-open, outcome, ends, committed-records, Event, all-singles}
 use Rattle.protocol.specs.Statements.{hall-after}
 use Rattle.protocol.specs.Room.{Bounded, StaysBounded}
@@ -92,7 +92,7 @@ module _ {S : Type 0} where
   bounded-done : (h : Hall S) → Bounded h → (p : Process) (pivot : Bool) (a : Activity) (to : Position) (o : Option (ℕ × S)) → Bounded (performed h p pivot a to o .hall)
   bounded-done h b p pivot a to None = bounded-changed h b (p .start) (stand (failed (p .standing))) (λ q. refl)
   bounded-done h b p pivot a to (Some d) =
-      let c = bounded-changed h b (p .start) (move (led pivot (p .standing)) to) (λ q. refl) in
+      let c = bounded-changed h b (p .start) (move (standing-after pivot (p .standing)) to) (λ q. refl) in
       record { given = c .given; active = c .active; committed = c .committed; rising = c .rising; starts = c .starts }
 
   pub bounded-outcome : (M : Meaning S) (h : Hall S) → Bounded h → (c : Call) → Bounded (outcome M h c .hall)

@@ -20,9 +20,9 @@ use Rattle.station.specs.Meaning.{Meaning}
 use Rattle.program.specs.Grammar.{Body}
 use Rattle.program.specs.Positions.{Position}
 use Rattle.protocol.specs.Ahead.{Next, nothing, plain, crossing, next}
-use Rattle.protocol.specs.Log.{Split, loose}
+use Rattle.protocol.specs.Log.{Split, returnable}
 use Rattle.protocol.specs.Hall.{Process, Hall, find, least, with-processes, changed, stand}
-use Rattle.protocol.specs.Rules.{blocks-back, blocks-plain, blocks-pivot, blocks-alone, blocks-commit, everybody, nobody, pivot-marks, marked, Outcome, answered, waits, unless-blocked, performed, restarted, gone, turning, undone, committing, backward, forward, by-standing, step-of}
+use Rattle.protocol.specs.Rules.{blocks-back, blocks-plain, blocks-pivot, blocks-alone, blocks-commit, everybody, nobody, pivot-marks, marked, Outcome, answered, waits, unless-blocked, performed, restarted, gone, next-alternative, undone, committing, backward, forward, by-standing, step-of}
 use Rattle.protocol.specs.Calls.{Call, loading, installing, opening, stepping, cancelling, refused-or, against-load, against-open, loaded, opened, cancel-by, cancel-of, outcome}
 use Rattle.protocol.proofs.Processes.{found-start, nobody-passes}
 
@@ -51,10 +51,10 @@ module _ {S : Type 0} (M : Meaning S) (h : Hall S) where
     pub steps : (p : Process) → Here p → Going p → (a : Activity) (to : Position) → next (p .at) ≡ plain a to → Passes (blocks-plain (M .conflict) (h .log) p a) → (o : Option (ℕ × S)) → M .performed (h .station) a ≡ o → P (stepping (p .start)) (performed h p false a to o)
     pub crosses : (p : Process) → Here p → Going p → (a : Activity) (to : Position) → next (p .at) ≡ crossing a to → Passes (blocks-alone p) → Passes (blocks-pivot (M .conflict) (h .log) p a) → (o : Option (ℕ × S)) → M .performed (h .station) a ≡ o → P (stepping (p .start)) (performed h p true a to o)
     pub commits : (p : Process) → Here p → Going p → next (p .at) ≡ nothing → Passes (blocks-commit (M .conflict) (h .log) p) → P (stepping (p .start)) (committing h p)
-    pub takes-back : (p : Process) → Here p → Backing p → (z : Split) → loose (p .start) (h .log) ≡ Some z → Passes (blocks-back (M .conflict) p z) → P (stepping (p .start)) (undone M h z)
-    pub restarts : (p : Process) → Here p → p .standing ≡ Withdrawing Restart → loose (p .start) (h .log) ≡ None → P (stepping (p .start)) (restarted h p)
-    pub leaves : (p : Process) → Here p → p .standing ≡ Withdrawing End → loose (p .start) (h .log) ≡ None → P (stepping (p .start)) (gone h p)
-    pub turns : (p : Process) → Here p → p .standing ≡ PastPivot Back → loose (p .start) (h .log) ≡ None → P (stepping (p .start)) (turning h p)
+    pub takes-back : (p : Process) → Here p → Backing p → (z : Split) → returnable (p .start) (h .log) ≡ Some z → Passes (blocks-back (M .conflict) p z) → P (stepping (p .start)) (undone M h z)
+    pub restarts : (p : Process) → Here p → p .standing ≡ Withdrawing Restart → returnable (p .start) (h .log) ≡ None → P (stepping (p .start)) (restarted h p)
+    pub leaves : (p : Process) → Here p → p .standing ≡ Withdrawing End → returnable (p .start) (h .log) ≡ None → P (stepping (p .start)) (gone h p)
+    pub turns : (p : Process) → Here p → p .standing ≡ PastPivot Back → returnable (p .start) (h .log) ≡ None → P (stepping (p .start)) (next-alternative h p)
 
   module _ (P : Call → Outcome S → Type 0) (all : Leaves P) where
     module _ (p : Process) (is : Here p) where
@@ -75,16 +75,16 @@ module _ {S : Type 0} (M : Meaning S) (h : Hall S) where
           unless (blocks-alone p) nobody (unless-blocked h (blocks-pivot (M .conflict) (h .log) p a) (pivot-marks p) (performed h p true a to (M .performed (h .station) a)))
           (λ alone. unless (blocks-pivot (M .conflict) (h .log) p a) (pivot-marks p) (performed h p true a to (M .performed (h .station) a)) (λ free. all .crosses p is g a to e alone free (M .performed (h .station) a) refl))
 
-      behind : Backing p → (on : Outcome S) → (loose (p .start) (h .log) ≡ None → Q on) → (o : Option Split) → loose (p .start) (h .log) ≡ o → Q (backward M h p on o)
+      behind : Backing p → (on : Outcome S) → (returnable (p .start) (h .log) ≡ None → Q on) → (o : Option Split) → returnable (p .start) (h .log) ≡ o → Q (backward M h p on o)
       behind b on none None e = none e
       behind b on none (Some z) e = unless (blocks-back (M .conflict) p z) everybody (undone M h z) (all .takes-back p is b z e)
 
       by : (st : Standing) → p .standing ≡ st → Q (by-standing M h p st)
       by Running e = ahead (inl e) (next (p .at)) refl
       by (PastPivot Forward) e = ahead (inr e) (next (p .at)) refl
-      by (PastPivot Back) e = behind (inr e) (turning h p) (all .turns p is e) (loose (p .start) (h .log)) refl
-      by (Withdrawing Restart) e = behind (inl (Restart, e)) (restarted h p) (all .restarts p is e) (loose (p .start) (h .log)) refl
-      by (Withdrawing End) e = behind (inl (End, e)) (gone h p) (all .leaves p is e) (loose (p .start) (h .log)) refl
+      by (PastPivot Back) e = behind (inr e) (next-alternative h p) (all .turns p is e) (returnable (p .start) (h .log)) refl
+      by (Withdrawing Restart) e = behind (inl (Restart, e)) (restarted h p) (all .restarts p is e) (returnable (p .start) (h .log)) refl
+      by (Withdrawing End) e = behind (inl (End, e)) (gone h p) (all .leaves p is e) (returnable (p .start) (h .log)) refl
 
       cancelled-by : (st : Standing) → p .standing ≡ st → P (cancelling (p .start)) (cancel-by h p st)
       cancelled-by Running e = all .cancels p is e

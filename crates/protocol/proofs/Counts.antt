@@ -16,7 +16,7 @@ use Rattle.protocol.specs.declared.record.Record.{Record}
 use Rattle.program.specs.Grammar.{Body, finish, compensatable, pivot, Choices, row, orElse, body-steps, choices-steps, row-steps}
 use Rattle.program.specs.Positions.{Rest, in-body, in-row, Position, outer, inner, alternative}
 use Rattle.protocol.specs.Ahead.{Next, nothing, plain, crossing, next}
-use Rattle.protocol.specs.Log.{any, Split, owned, own, rejoined, removed, last-of, unless-pivot, loose, to-pivot, from-pivot, committed-under}
+use Rattle.protocol.specs.Log.{any, Split, owned, own, rejoined, removed, last-of, unless-pivot, returnable, to-pivot, from-pivot, committed-under}
 use Rattle.protocol.specs.Hall.{Process, find, without}
 use Rattle.protocol.specs.Calls.{committed-records}
 use Rattle.protocol.specs.Statements.{without-commit-number}
@@ -133,7 +133,7 @@ own-others m n log z l off =
     ∙ sym (ap (own n) (l .whole) ∙ kept-append (owned n) (z .before) (z .at ∷ z .after) ∙ ap (λ b. own n (z .before) ++ cond b (z .at ∷ own n (z .after)) (own n (z .after))) (ne-eqb (z .at .start) n (λ e. off (sym e ∙ l .owner))))
 
 -- with nothing to take back there is nothing after the last pivot
-pub none-loose : (n : ℕ) (log : List Record) → loose n log ≡ None → length (from-pivot (own n log)) ≡ 0
+pub none-loose : (n : ℕ) (log : List Record) → returnable n log ≡ None → length (from-pivot (own n log)) ≡ 0
 none-loose n log e = go (last-of n log) (last-is n log) e
   where
     go : (o : Option Split) → LastIs n log o → unless-pivot o ≡ None → length (from-pivot (own n log)) ≡ 0

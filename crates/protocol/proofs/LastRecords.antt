@@ -9,7 +9,7 @@ use Rattle.std.specs.declared.option.Option.{Option}
 use Rattle.std.specs.declared.option.Option.the-variants.{Some, None}
 use Rattle.std.proofs.shelf.Tests.{eqb-true, eqb-false, eq-eqb, or-parts, true≢false, false≢true, and-from}
 use Rattle.protocol.specs.declared.record.Record.{Record}
-use Rattle.protocol.specs.Log.{any, owned, own, Split, rejoined, removed, or-here, last-of, unless-pivot, loose, pivoted, from-pivot}
+use Rattle.protocol.specs.Log.{any, owned, own, Split, rejoined, removed, or-here, last-of, unless-pivot, returnable, pivoted, from-pivot}
 use Rattle.protocol.proofs.Members.{In, some-any, in-here}
 use Rattle.protocol.proofs.Processes.{some-same, none-some}
 
@@ -50,7 +50,7 @@ abbrev pub LooseIs : ℕ → List Record → Option Split → Type 0
 LooseIs n log None = NotOf n log ⊎ (pivoted log n ≡ true)
 LooseIs n log (Some s) = Loose n log s
 
-pub loose-is : (n : ℕ) (log : List Record) → LooseIs n log (loose n log)
+pub loose-is : (n : ℕ) (log : List Record) → LooseIs n log (returnable n log)
 loose-is n log = go (last-of n log) (last-is n log)
   where
     go : (o : Option Split) → LastIs n log o → LooseIs n log (unless-pivot o)

@@ -22,7 +22,7 @@ use Rattle.protocol.specs.Means.{actions, Laws, Does, conflicting}
 use Rattle.program.specs.Positions.{Position}
 use Rattle.protocol.specs.Log.{any, owned, own, Split, rejoined, removed, pivoted, group, number, prior, committed-under, from-pivot}
 use Rattle.protocol.specs.Hall.{Process, Hall, find, without, change, changed, stand, move, past-pivot}
-use Rattle.protocol.specs.Rules.{touches, meets, precedes, record-of, led, performed, undone, committing}
+use Rattle.protocol.specs.Rules.{holds-conflict, holds-any-conflict, stands-before-conflict, record-of, standing-after, performed, undone, committing}
 use Rattle.protocol.proofs.Members.{In, Before, all-from, before-first, before-second, in-push, before-push, in-more, before-more, before-here, in-here, in-map, before-map, any-none, none-any, any-push, any-more, any-map, in-kept, any-kept}
 use Rattle.protocol.proofs.Processes.{found-start, from-changed, to-changed, find-without, from-without, without-none, some-same, none-some}
 use Rattle.protocol.proofs.Ranks.{Rank, committed, pivoting, waiting, rank, Later, later, not-prior}
@@ -30,20 +30,20 @@ use Rattle.protocol.proofs.LastRecords.{NotOf, Last, Loose, from-none}
 use Rattle.protocol.proofs.Sound.{rowless, Placed, Owner, Active, Ordered, Sound}
 
 -- a record of a process that conflicts with nothing of a process n in the log
-pub untouched : (clash : ℕ → ℕ → Bool) (n a : ℕ) (log : List Record) → touches clash n a log ≡ false → (r : Record) → In r log → r .start ≡ n → clash (r .activity .number) a ≡ false
-untouched clash n a log e r i same =
-    ap (λ b. b && clash (r .activity .number) a) (sym (eq-eqb (r .start) n same)) ∙ any-none (λ x. owned n x && clash (x .activity .number) a) log e r i
+pub untouched : (conflict : ℕ → ℕ → Bool) (n a : ℕ) (log : List Record) → holds-conflict conflict n a log ≡ false → (r : Record) → In r log → r .start ≡ n → conflict (r .activity .number) a ≡ false
+untouched conflict n a log e r i same =
+    ap (λ b. b && conflict (r .activity .number) a) (sym (eq-eqb (r .start) n same)) ∙ any-none (λ x. owned n x && conflict (x .activity .number) a) log e r i
 
-pub not-before : (clash : ℕ → ℕ → Bool) (n m : ℕ) (log : List Record) → precedes clash n m log ≡ false → (a b : Record) → Before a b log → a .start ≡ n → b .start ≡ m → clash (a .activity .number) (b .activity .number) ≡ false
-not-before clash n m [] e a b i p q = elim i [ ]
-not-before clash n m (r ∷ rs) e a b (inr i) p q = not-before clash n m rs (Rattle.std.proofs.shelf.Tests.or-parts (owned n r && any (λ x. owned m x && clash (r .activity .number) (x .activity .number)) rs) (precedes clash n m rs) e .1) a b i p q
-not-before clash n m (r ∷ rs) e a b (inl (at, i)) p q =
-    let none = Rattle.std.proofs.shelf.Tests.or-parts (owned n r && any (λ x. owned m x && clash (r .activity .number) (x .activity .number)) rs) (precedes clash n m rs) e .0 in
+pub not-before : (conflict : ℕ → ℕ → Bool) (n m : ℕ) (log : List Record) → stands-before-conflict conflict n m log ≡ false → (a b : Record) → Before a b log → a .start ≡ n → b .start ≡ m → conflict (a .activity .number) (b .activity .number) ≡ false
+not-before conflict n m [] e a b i p q = elim i [ ]
+not-before conflict n m (r ∷ rs) e a b (inr i) p q = not-before conflict n m rs (Rattle.std.proofs.shelf.Tests.or-parts (owned n r && any (λ x. owned m x && conflict (r .activity .number) (x .activity .number)) rs) (stands-before-conflict conflict n m rs) e .1) a b i p q
+not-before conflict n m (r ∷ rs) e a b (inl (at, i)) p q =
+    let none = Rattle.std.proofs.shelf.Tests.or-parts (owned n r && any (λ x. owned m x && conflict (r .activity .number) (x .activity .number)) rs) (stands-before-conflict conflict n m rs) e .0 in
     let mine : owned n r ≡ true = eq-eqb (r .start) n (ap (λ x. x .start) (sym at) ∙ p) in
-    let free : any (λ x. owned m x && clash (r .activity .number) (x .activity .number)) rs ≡ false = ap (λ t. t && any (λ x. owned m x && clash (r .activity .number) (x .activity .number)) rs) (sym mine) ∙ none in
-    ap (λ x. clash (x .activity .number) (b .activity .number)) at
-    ∙ ap (λ t. t && clash (r .activity .number) (b .activity .number)) (sym (eq-eqb (b .start) m q))
-    ∙ any-none (λ x. owned m x && clash (r .activity .number) (x .activity .number)) rs free b i
+    let free : any (λ x. owned m x && conflict (r .activity .number) (x .activity .number)) rs ≡ false = ap (λ t. t && any (λ x. owned m x && conflict (r .activity .number) (x .activity .number)) rs) (sym mine) ∙ none in
+    ap (λ x. conflict (x .activity .number) (b .activity .number)) at
+    ∙ ap (λ t. t && conflict (r .activity .number) (b .activity .number)) (sym (eq-eqb (b .start) m q))
+    ∙ any-none (λ x. owned m x && conflict (r .activity .number) (x .activity .number)) rs free b i
 
 module _ {S : Type 0} (M : Meaning S) (laws : Laws M) (s : S) where
   -- a station's activities keep the laws of actions, in every state
@@ -60,19 +60,19 @@ module _ {S : Type 0} (M : Meaning S) (laws : Laws M) (s : S) where
 
   -- nobody else has a record in conflict with the step, but older ones with a running process's
   abbrev pub Clear : Hall S → Process → Activity → Type 0
-  Clear h p a = (n : ℕ) (q : Process) → find n (h .processes) ≡ Some q → (n ≡ p .start → ⊥) → (touches (M .conflict) n (a .number) (h .log) ≡ false) ⊎ ((n ≤ p .start) × (past-pivot (p .standing) ≡ false))
+  Clear h p a = (n : ℕ) (q : Process) → find n (h .processes) ≡ Some q → (n ≡ p .start → ⊥) → (holds-conflict (M .conflict) n (a .number) (h .log) ≡ false) ⊎ ((n ≤ p .start) × (past-pivot (p .standing) ≡ false))
 
   -- at a running process's pivot nobody else is past a pivot, or has a record in conflict with one of its own
   pub record First (h : Hall S) (p : Process) : Type 0 where
     pub alone : (n : ℕ) (q : Process) → find n (h .processes) ≡ Some q → (n ≡ p .start → ⊥) → past-pivot (q .standing) ≡ false
-    pub apart : (n : ℕ) (q : Process) → find n (h .processes) ≡ Some q → (n ≡ p .start → ⊥) → meets (M .conflict) n (h .log) (from-pivot (own (p .start) (h .log))) ≡ false
+    pub apart : (n : ℕ) (q : Process) → find n (h .processes) ≡ Some q → (n ≡ p .start → ⊥) → holds-any-conflict (M .conflict) n (h .log) (from-pivot (own (p .start) (h .log))) ≡ false
 
   module _ (h : Hall S) (sound : Sound M s h) (p : Process) (is : find (p .start) (h .processes) ≡ Some p) where
     own-active : (r : Record) → In r (h .log) → r .start ≡ p .start → r .commit ≡ 0
     own-active r i e = sound .owners r i .left p (ap (λ k. find k (h .processes)) e ∙ is)
 
     -- the new record goes behind all in conflict with it
-    new-last : (piv : ℕ → Bool) (pivot : Bool) (a : Activity) (x : ℕ) → Clear h p a → (past-pivot (p .standing) ≡ false → (piv (p .start) ≡ false) ⊎ ((n : ℕ) (q : Process) → find n (h .processes) ≡ Some q → (n ≡ p .start → ⊥) → touches (M .conflict) n (a .number) (h .log) ≡ false))
+    new-last : (piv : ℕ → Bool) (pivot : Bool) (a : Activity) (x : ℕ) → Clear h p a → (past-pivot (p .standing) ≡ false → (piv (p .start) ≡ false) ⊎ ((n : ℕ) (q : Process) → find n (h .processes) ≡ Some q → (n ≡ p .start → ⊥) → holds-conflict (M .conflict) n (a .number) (h .log) ≡ false))
         → (r : Record) → In r (h .log) → prior piv r (record-of p pivot a x) ≡ false → M .conflict (r .activity .number) (a .number) ≡ false
     new-last piv pivot a x clear first r i e = go (rank piv r) (rank piv new) (later piv r new e)
       where
@@ -148,8 +148,8 @@ module _ {S : Type 0} (M : Meaning S) (laws : Laws M) (s : S) where
         cross : (x y : Record) → In x (h .log) → In y (h .log) → x .commit ≡ 0 → (x .start ≡ p .start → ⊥) → y .start ≡ p .start → conflicting M x y ≡ false
         cross x y ix iy active apart own-y =
             let (q, at) = sound .owners x ix .active active in
-            let none = subst (λ l. meets (M .conflict) (x .start) (h .log) l ≡ false) free (first .apart (x .start) q at apart) in
-            untouched (M .conflict) (x .start) (y .activity .number) (h .log) (any-none (λ r. touches (M .conflict) (x .start) (r .activity .number) (h .log)) (own (p .start) (h .log)) none y (in-kept (owned (p .start)) (h .log) y iy (eq-eqb (y .start) (p .start) own-y))) x ix refl
+            let none = subst (λ l. holds-any-conflict (M .conflict) (x .start) (h .log) l ≡ false) free (first .apart (x .start) q at apart) in
+            untouched (M .conflict) (x .start) (y .activity .number) (h .log) (any-none (λ r. holds-conflict (M .conflict) (x .start) (r .activity .number) (h .log)) (own (p .start) (h .log)) none y (in-kept (owned (p .start)) (h .log) y iy (eq-eqb (y .start) (p .start) own-y))) x ix refl
 
         not-past : (x : Record) → In x (h .log) → x .commit ≡ 0 → (x .start ≡ p .start → ⊥) → piv (x .start) ≡ false
         not-past x ix active apart =
@@ -195,7 +195,7 @@ module _ {S : Type 0} (M : Meaning S) (laws : Laws M) (s : S) where
             same-prior x y = λ i. (lib.Dec.ltb (x i) (y i)) || (eqb (x i) (y i) && lib.Dec.leb (number a) (number b))
 
     abbrev pub Untouched : Activity → Type 0
-    Untouched a = (n : ℕ) (q : Process) → find n (h .processes) ≡ Some q → (n ≡ p .start → ⊥) → touches (M .conflict) n (a .number) (h .log) ≡ false
+    Untouched a = (n : ℕ) (q : Process) → find n (h .processes) ≡ Some q → (n ≡ p .start → ⊥) → holds-conflict (M .conflict) n (a .number) (h .log) ≡ false
 
     -- no first pivot, or a first one in its place
     pub data How (pivot : Bool) (a : Activity) : Type 0 where
@@ -213,26 +213,26 @@ module _ {S : Type 0} (M : Meaning S) (laws : Laws M) (s : S) where
           go (same w) = ap (λ f. f n) (pivots-same pivot a x w)
           go (first e running f u) = ap (λ b. pivoted (h .log ++ record-of p b a x ∷ []) n) e ∙ pivots-more a x n other
 
-      own-pivot : pivoted (h .log ++ record-of p pivot a x ∷ []) (p .start) ≡ past-pivot (led pivot (p .standing))
+      own-pivot : pivoted (h .log ++ record-of p pivot a x ∷ []) (p .start) ≡ past-pivot (standing-after pivot (p .standing))
       own-pivot = go how
         where
           was : pivoted (h .log) (p .start) ≡ past-pivot (p .standing)
           was = sound .actives (p .start) p is .pivot
 
-          past : (b : Bool) → past-pivot (p .standing) ≡ true → past-pivot (p .standing) ≡ past-pivot (led b (p .standing))
+          past : (b : Bool) → past-pivot (p .standing) ≡ true → past-pivot (p .standing) ≡ past-pivot (standing-after b (p .standing))
           past true e = e
           past false e = refl
 
-          go : How pivot a → pivoted (h .log ++ record-of p pivot a x ∷ []) (p .start) ≡ past-pivot (led pivot (p .standing))
-          go (same (inl plain)) = ap (λ f. f (p .start)) (pivots-same pivot a x (inl plain)) ∙ was ∙ sym (ap (λ b. past-pivot (led b (p .standing))) plain)
+          go : How pivot a → pivoted (h .log ++ record-of p pivot a x ∷ []) (p .start) ≡ past-pivot (standing-after pivot (p .standing))
+          go (same (inl plain)) = ap (λ f. f (p .start)) (pivots-same pivot a x (inl plain)) ∙ was ∙ sym (ap (λ b. past-pivot (standing-after b (p .standing))) plain)
           go (same (inr e)) = ap (λ f. f (p .start)) (pivots-same pivot a x (inr e)) ∙ was ∙ past pivot e
-          go (first e running f u) = ap (λ b. pivoted (h .log ++ record-of p b a x ∷ []) (p .start)) e ∙ pivots-own a x ∙ sym (ap (λ b. past-pivot (led b (p .standing))) e)
+          go (first e running f u) = ap (λ b. pivoted (h .log ++ record-of p b a x ∷ []) (p .start)) e ∙ pivots-own a x ∙ sym (ap (λ b. past-pivot (standing-after b (p .standing))) e)
 
-      one-past : past-pivot (led pivot (p .standing)) ≡ true → (m : ℕ) (r : Process) → find m (h .processes) ≡ Some r → (m ≡ p .start → ⊥) → past-pivot (r .standing) ≡ true → ⊥
+      one-past : past-pivot (standing-after pivot (p .standing)) ≡ true → (m : ℕ) (r : Process) → find m (h .processes) ≡ Some r → (m ≡ p .start → ⊥) → past-pivot (r .standing) ≡ true → ⊥
       one-past now m r at other past = go how
         where
           go : How pivot a → ⊥
-          go (same (inl plain)) = other (sound .lone m (p .start) r p at is past (sym (ap (λ b. past-pivot (led b (p .standing))) plain) ∙ now))
+          go (same (inl plain)) = other (sound .lone m (p .start) r p at is past (sym (ap (λ b. past-pivot (standing-after b (p .standing))) plain) ∙ now))
           go (same (inr e)) = other (sound .lone m (p .start) r p at is past e)
           go (first e running f u) = both-ways (past-pivot (r .standing)) (f .alone m r at other) past
 
@@ -247,7 +247,7 @@ module _ {S : Type 0} (M : Meaning S) (laws : Laws M) (s : S) where
             where
               go : How pivot a → conflicting M b c ≡ false
               go (same w) = sound .order b c j (ap (λ f. prior f b c) (sym (pivots-same pivot a x w)) ∙ e)
-              go (first y running f u) = old-pairs piv′ others-same (own-pivot ∙ ap (λ t. past-pivot (led t (p .standing))) y) running f b c j e
+              go (first y running f u) = old-pairs piv′ others-same (own-pivot ∙ ap (λ t. past-pivot (standing-after t (p .standing))) y) running f b c j e
 
           new : In b (h .log) × (c ≡ record-of p pivot a x) → conflicting M b c ≡ false
           new (j, is-new) =
@@ -255,7 +255,7 @@ module _ {S : Type 0} (M : Meaning S) (laws : Laws M) (s : S) where
               ∙ new-last piv′ pivot a x clear (λ running. go how running) b j (ap (λ z. prior piv′ b z) (sym is-new) ∙ e)
             where
               go : How pivot a → past-pivot (p .standing) ≡ false → (piv′ (p .start) ≡ false) ⊎ Untouched a
-              go (same (inl plain)) running = inl (own-pivot ∙ ap (λ t. past-pivot (led t (p .standing))) plain ∙ running)
+              go (same (inl plain)) running = inl (own-pivot ∙ ap (λ t. past-pivot (standing-after t (p .standing))) plain ∙ running)
               go (same (inr past)) running = absurd (both-ways (past-pivot (p .standing)) running past)
               go (first y run f u) running = inr u
 
@@ -266,7 +266,7 @@ module _ {S : Type 0} (M : Meaning S) (laws : Laws M) (s : S) where
         → M .performed (h .station) a ≡ Some d
         → Clear h p a
         → How pivot a
-        → Placed M (led pivot (p .standing)) to
+        → Placed M (standing-after pivot (p .standing)) to
         → (rowless to ≡ true → rowless (p .at) ≡ true)
         → (pivot ≡ false → rowless to ≡ true → M .compensatable (a .number) ≡ true)
         → Sound M s (performed h p pivot a to (Some d) .hall)
@@ -310,10 +310,10 @@ module _ {S : Type 0} (M : Meaning S) (laws : Laws M) (s : S) where
         after = performed h p pivot a to (Some d) .hall
 
         st : Standing
-        st = led pivot (p .standing)
+        st = standing-after pivot (p .standing)
 
-        from : (n : ℕ) (q : Process) → find n (changed (p .start) (move (led pivot (p .standing)) to) (h .processes)) ≡ Some q → ((n ≡ p .start) × (q ≡ move (led pivot (p .standing)) to p)) ⊎ ((n ≡ p .start → ⊥) × (find n (h .processes) ≡ Some q))
-        from n q e = from-changed (p .start) p (move (led pivot (p .standing)) to) (f-keeps (led pivot (p .standing)) to) (h .processes) is n q e
+        from : (n : ℕ) (q : Process) → find n (changed (p .start) (move (standing-after pivot (p .standing)) to) (h .processes)) ≡ Some q → ((n ≡ p .start) × (q ≡ move (standing-after pivot (p .standing)) to p)) ⊎ ((n ≡ p .start → ⊥) × (find n (h .processes) ≡ Some q))
+        from n q e = from-changed (p .start) p (move (standing-after pivot (p .standing)) to) (f-keeps (standing-after pivot (p .standing)) to) (h .processes) is n q e
 
         old : (r : Record) → In r (h .log) → Owner M after r
         old r i =
@@ -344,10 +344,10 @@ module _ {S : Type 0} (M : Meaning S) (laws : Laws M) (s : S) where
     -- A step taken back
 
     pub sound-undone : (z : Split) → Loose (p .start) (h .log) z
-        → ((n : ℕ) (q : Process) → find n (h .processes) ≡ Some q → (n ≡ p .start → ⊥) → touches (M .conflict) n (z .at .activity .number) (z .after) ≡ false)
+        → ((n : ℕ) (q : Process) → find n (h .processes) ≡ Some q → (n ≡ p .start → ⊥) → holds-conflict (M .conflict) n (z .at .activity .number) (z .after) ≡ false)
         → rowless (p .at) ≡ true
         → Sound M s (undone M h z .hall)
-    sound-undone z loose clear free = record {
+    sound-undone z returnable clear free = record {
       replay = back-replays;
       order = λ a b i e. sound .order a b (more-before a b i) (ap (λ f. prior f a b) (sym pivots) ∙ e);
       kin = λ a b i j. sound .kin a b (more a i) (more b j);
@@ -359,7 +359,7 @@ module _ {S : Type 0} (M : Meaning S) (laws : Laws M) (s : S) where
     }
       where
         whole : h .log ≡ rejoined z
-        whole = loose .last .whole
+        whole = returnable .last .whole
 
         more : (r : Record) → In r (removed z) → In r (h .log)
         more r i = subst (In r) (sym whole) (in-more r (z .before) (z .at) (z .after) i)
@@ -371,10 +371,10 @@ module _ {S : Type 0} (M : Meaning S) (laws : Laws M) (s : S) where
         here = subst (In (z .at)) (sym whole) (in-here (z .before) (z .at) (z .after))
 
         pivots : pivoted (removed z) ≡ pivoted (h .log)
-        pivots = fun-ext (λ n. any-more (λ r. owned n r && r .pivot) (z .before) (z .at) (z .after) (and-right (owned n (z .at)) (z .at .pivot) (loose .plain)) ∙ ap (λ l. pivoted l n) (sym whole))
+        pivots = fun-ext (λ n. any-more (λ r. owned n r && r .pivot) (z .before) (z .at) (z .after) (and-right (owned n (z .at)) (z .at .pivot) (returnable .plain)) ∙ ap (λ l. pivoted l n) (sym whole))
 
         comp : M .compensatable (z .at .activity .number) ≡ true
-        comp = sound .owners (z .at) here .back p (ap (λ k. find k (h .processes)) (loose .last .owner) ∙ is) (loose .plain) free
+        comp = sound .owners (z .at) here .back p (ap (λ k. find k (h .processes)) (returnable .last .owner) ∙ is) (returnable .plain) free
 
         -- nothing after it is in conflict with it
         apart : (y : Record) → In y (z .after) → conflicting M (z .at) y ≡ false
@@ -386,12 +386,12 @@ module _ {S : Type 0} (M : Meaning S) (laws : Laws M) (s : S) where
             active-apart : y .commit ≡ 0 → conflicting M (z .at) y ≡ false
             active-apart c =
                 let (q, at) = sound .owners y (before-second (z .at) y (h .log) before) .active c in
-                laws .symmetric (z .at .activity .number) (y .activity .number) ∙ untouched (M .conflict) (y .start) (z .at .activity .number) (z .after) (clear (y .start) q at (loose .last .after y i)) y i refl
+                laws .symmetric (z .at .activity .number) (y .activity .number) ∙ untouched (M .conflict) (y .start) (z .at .activity .number) (z .after) (clear (y .start) q at (returnable .last .after y i)) y i refl
 
             go : Rank (pivoted (h .log)) (z .at) → Rank (pivoted (h .log)) y → conflicting M (z .at) y ≡ false
             go ra (pivoting c u g n) = active-apart c
             go ra (waiting c u g n) = active-apart c
-            go (committed some g′ n′) (committed some′ g n) = absurd (some (own-active (z .at) here (loose .last .owner)))
+            go (committed some g′ n′) (committed some′ g n) = absurd (some (own-active (z .at) here (returnable .last .owner)))
             go (pivoting c u g′ n′) (committed some′ g n) = sound .order (z .at) y before (not-prior (pivoted (h .log)) (z .at) y (omega arith))
             go (waiting c u g′ n′) (committed some′ g n) = sound .order (z .at) y before (not-prior (pivoted (h .log)) (z .at) y (omega arith))
 
@@ -403,7 +403,7 @@ module _ {S : Type 0} (M : Meaning S) (laws : Laws M) (s : S) where
 
     -- A commit
 
-    pub sound-committed : ((n : ℕ) (q : Process) → find n (h .processes) ≡ Some q → (n ≡ p .start → ⊥) → precedes (M .conflict) n (p .start) (h .log) ≡ false)
+    pub sound-committed : ((n : ℕ) (q : Process) → find n (h .processes) ≡ Some q → (n ≡ p .start → ⊥) → stands-before-conflict (M .conflict) n (p .start) (h .log) ≡ false)
         → Sound M s (committing h p .hall)
     sound-committed clear = record {
       replay = runs-sealed (h .log) s (h .station) (sound .replay);

@@ -18,7 +18,7 @@ use Rattle.protocol.specs.declared.standing.Standing.the-variants.{Running, Wi
 use Rattle.station.specs.Meaning.{Meaning}
 use Rattle.program.specs.Positions.{Position}
 use Rattle.protocol.specs.Ahead.{Next, nothing, plain, crossing, next}
-use Rattle.protocol.specs.Log.{any, Split, owned, own, rejoined, removed, loose, to-pivot, committed-under}
+use Rattle.protocol.specs.Log.{any, Split, owned, own, rejoined, removed, returnable, to-pivot, committed-under}
 use Rattle.protocol.specs.Hall.{Process, Hall, find, least}
 use Rattle.protocol.specs.Rules.{performed}
 use Rattle.protocol.specs.Calls.{Call, outcome, ends}

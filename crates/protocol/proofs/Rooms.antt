@@ -27,9 +27,9 @@ use Rattle.protocol.specs.Means.{Laws}
 use Rattle.program.specs.Grammar.{Body, Choices, row, orElse, body-steps}
 use Rattle.program.specs.Positions.{Rest, in-body, in-row, Position, outer, inner, alternative, reached, into, alternative-of}
 use Rattle.protocol.specs.Ahead.{Next, nothing, plain, crossing, next}
-use Rattle.protocol.specs.Log.{Split, owned, own, removed, loose, pivoted, to-pivot, from-pivot, committed-under}
+use Rattle.protocol.specs.Log.{Split, owned, own, removed, returnable, pivoted, to-pivot, from-pivot, committed-under}
 use Rattle.protocol.specs.Hall.{Process, Hall, fresh, find, without, change, changed, stand, move, with-processes, past-pivot, running, body-of, beginning, least}
-use Rattle.protocol.specs.Rules.{marked, performed, undone, committing, failed, led, record-of}
+use Rattle.protocol.specs.Rules.{marked, performed, undone, committing, failed, standing-after, record-of}
 use Rattle.protocol.specs.Calls.{Call, else, against-open, loaded, opened, outcome, ends, committed-records, Event, all-singles}
 use Rattle.protocol.proofs.CallCases.{cases}
 use Rattle.protocol.specs.Statements.{hall-after, without-commit-number}
@@ -115,8 +115,8 @@ module _ {S : Type 0} where
       actives = λ n q e. ⊎-elim
           (λ mine. subst (λ k. Roomy (own k (h .log ++ new ∷ [])) (q .at)) (sym (mine .0)) (subst (λ x. Roomy (own (p .start) (h .log ++ new ∷ [])) (x .at)) (sym (mine .1)) here))
           (λ other. subst (λ l. Roomy l (q .at)) (sym (there n (other .0))) (rooms .actives n q (other .1)))
-          (from-changed (p .start) p (move (led pivot (p .standing)) to) (λ q. refl) (h .processes) is n q e);
-      budget = omega (arith, length-map (change (p .start) (move (led pivot (p .standing)) to)) (h .processes), closed-push (h .log) new refl, rooms .budget);
+          (from-changed (p .start) p (move (standing-after pivot (p .standing)) to) (λ q. refl) (h .processes) is n q e);
+      budget = omega (arith, length-map (change (p .start) (move (standing-after pivot (p .standing)) to)) (h .processes), closed-push (h .log) new refl, rooms .budget);
     }
       where
         new : Record
@@ -185,7 +185,7 @@ into-room xs (outer b) k e room = room
 into-room xs (inner c j r) k e room = (room .0, omega (arith, e, ap rest-size (reached-alternative c k)))
 
 module _ {S : Type 0} (M : Meaning S) where
-  pub rooms-by : (h : Hall S) → NotOf (suc (h .given)) (h .log) → ((p : Process) → find (p .start) (h .processes) ≡ Some p → p .standing ≡ Withdrawing Restart → loose (p .start) (h .log) ≡ None → NotOf (p .start) (h .log)) → Rooms h → (c : Call) → Genuine c → Rooms (outcome M h c .hall)
+  pub rooms-by : (h : Hall S) → NotOf (suc (h .given)) (h .log) → ((p : Process) → find (p .start) (h .processes) ≡ Some p → p .standing ≡ Withdrawing Restart → returnable (p .start) (h .log) ≡ None → NotOf (p .start) (h .log)) → Rooms h → (c : Call) → Genuine c → Rooms (outcome M h c .hall)
   rooms-by h free none-of rooms = cases M h (λ c o. Genuine c → Rooms (o .hall)) record {
     refused = λ c r read. rooms;
     waited = λ p is told n read. rooms-marked h rooms told;

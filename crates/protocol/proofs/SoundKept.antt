@@ -20,9 +20,9 @@ use Rattle.station.specs.Meaning.{Meaning}
 use Rattle.protocol.specs.Means.{Laws}
 use Rattle.program.specs.Positions.{Position, outer, inner, into, alternative-of}
 use Rattle.protocol.specs.Ahead.{Next, nothing, plain, crossing, next}
-use Rattle.protocol.specs.Log.{Split, loose, own, from-pivot, pivoted}
+use Rattle.protocol.specs.Log.{Split, returnable, own, from-pivot, pivoted}
 use Rattle.protocol.specs.Hall.{Process, Hall, find, past-pivot, retreating, stand, move, beginning}
-use Rattle.protocol.specs.Rules.{touches, meets, precedes, other, younger, blocks-back, blocks-plain, blocks-pivot, blocks-alone, blocks-commit, performed, failed}
+use Rattle.protocol.specs.Rules.{holds-conflict, holds-any-conflict, stands-before-conflict, other, younger, blocks-back, blocks-plain, blocks-pivot, blocks-alone, blocks-commit, performed, failed}
 use Rattle.protocol.specs.Calls.{Call, outcome, ends}
 use Rattle.protocol.proofs.Processes.{found-start}
 use Rattle.protocol.proofs.LastRecords.{loose-is, LooseIs, NotOf}
@@ -67,16 +67,16 @@ module _ {S : Type 0} (M : Meaning S) (laws : Laws M) (s : S) where
         let (run, rest) = or-parts (past-pivot (p .standing)) (younger p q || retreating (q .standing)) e in
         let (old, on) = or-parts (younger p q) (retreating (q .standing)) rest in
         inr (subst (λ k. k ≤ p .start) (found-start n (h .processes) q at) (ltb-false (p .start) (q .start) old), run))
-        (λ e. inl (subst (λ k. touches (M .conflict) k (a .number) (h .log) ≡ false) (found-start n (h .processes) q at) e))
-        (and-cases (past-pivot (p .standing) || (younger p q || retreating (q .standing))) (touches (M .conflict) (q .start) (a .number) (h .log)) none)
+        (λ e. inl (subst (λ k. holds-conflict (M .conflict) k (a .number) (h .log) ≡ false) (found-start n (h .processes) q at) e))
+        (and-cases (past-pivot (p .standing) || (younger p q || retreating (q .standing))) (holds-conflict (M .conflict) (q .start) (a .number) (h .log)) none)
 
     pivot-free : (a : Activity) → Passes M h (blocks-pivot (M .conflict) (h .log) p a) → (n : ℕ) (q : Process) → find n (h .processes) ≡ Some q → (n ≡ p .start → ⊥)
-        → (touches (M .conflict) n (a .number) (h .log) ≡ false) × (meets (M .conflict) n (h .log) (from-pivot (own (p .start) (h .log))) ≡ false)
+        → (holds-conflict (M .conflict) n (a .number) (h .log) ≡ false) × (holds-any-conflict (M .conflict) n (h .log) (from-pivot (own (p .start) (h .log))) ≡ false)
     pivot-free a free n q at off =
         let none = clears p q _ (apart n q at off) (free n q at) in
-        let (x, y) = or-parts (touches (M .conflict) (q .start) (a .number) (h .log)) (meets (M .conflict) (q .start) (h .log) (from-pivot (own (p .start) (h .log)))) none in (
-          subst (λ k. touches (M .conflict) k (a .number) (h .log) ≡ false) (found-start n (h .processes) q at) x,
-          subst (λ k. meets (M .conflict) k (h .log) (from-pivot (own (p .start) (h .log))) ≡ false) (found-start n (h .processes) q at) y,
+        let (x, y) = or-parts (holds-conflict (M .conflict) (q .start) (a .number) (h .log)) (holds-any-conflict (M .conflict) (q .start) (h .log) (from-pivot (own (p .start) (h .log)))) none in (
+          subst (λ k. holds-conflict (M .conflict) k (a .number) (h .log) ≡ false) (found-start n (h .processes) q at) x,
+          subst (λ k. holds-any-conflict (M .conflict) k (h .log) (from-pivot (own (p .start) (h .log))) ≡ false) (found-start n (h .processes) q at) y,
         )
 
     pivot-how : (a : Activity) → Passes M h (blocks-alone p) → Passes M h (blocks-pivot (M .conflict) (h .log) p a) → How M laws s h sound p is true a
@@ -100,7 +100,7 @@ module _ {S : Type 0} (M : Meaning S) (laws : Laws M) (s : S) where
     back-free (inl (restart, e)) = withdrawing-rowless M restart (p .at) (at-standing e)
     back-free (inr e) = back-rowless M (p .at) (at-standing e)
 
-    pub none-left : {restart : Aim} → p .standing ≡ Withdrawing restart → loose (p .start) (h .log) ≡ None → NotOf (p .start) (h .log)
+    pub none-left : {restart : Aim} → p .standing ≡ Withdrawing restart → returnable (p .start) (h .log) ≡ None → NotOf (p .start) (h .log)
     none-left e none = ⊎-elim (λ x. x) (λ piv. absurd (both-ways (pivoted (h .log) (p .start)) (sound .actives (p .start) p is .pivot ∙ ap past-pivot e) piv)) (subst (LooseIs (p .start) (h .log)) none (loose-is (p .start) (h .log)))
 
     sound-plain : (a : Activity) (to : Position) → Plain M (p .standing) (p .at) a to → Passes M h (blocks-plain (M .conflict) (h .log) p a) → (o : Option (ℕ × S)) → M .performed (h .station) a ≡ o → Sound M s (performed h p false a to o .hall)
@@ -125,9 +125,9 @@ module _ {S : Type 0} (M : Meaning S) (laws : Laws M) (s : S) where
     cancels = λ p is e. sound-changed M s h sound (p .start) p is (stand (Withdrawing End)) (λ q. refl) record { pivot = sym (ap past-pivot e); row = λ r. r; placed = failed-placed M Running (p .at) (at-standing h sound p is e) (running-rowless h sound p is (p .at) (at-standing h sound p is e)) };
     steps = λ p is g a to n free o e. sound-plain h sound p is a to (fits h sound p is (plain a to) g n) free o e;
     crosses = λ p is g a to n alone free o e. sound-pivot h sound p is a to (fits h sound p is (crossing a to) g n) alone free o e;
-    commits = λ p is g n free. sound-committed M laws s h sound p is (λ m q at off. subst (λ k. precedes (M .conflict) k (p .start) (h .log) ≡ false) (found-start m (h .processes) q at) (clears p q _ (apart h sound p is m q at off) (free m q at)));
+    commits = λ p is g n free. sound-committed M laws s h sound p is (λ m q at off. subst (λ k. stands-before-conflict (M .conflict) k (p .start) (h .log) ≡ false) (found-start m (h .processes) q at) (clears p q _ (apart h sound p is m q at off) (free m q at)));
     takes-back = λ p is b z l free. sound-undone M laws s h sound p is z (subst (LooseIs (p .start) (h .log)) l (loose-is (p .start) (h .log)))
-        (λ m q at off. subst (λ k. touches (M .conflict) k (z .at .activity .number) (z .after) ≡ false) (found-start m (h .processes) q at) (clears p q _ (apart h sound p is m q at off) (free m q at)))
+        (λ m q at off. subst (λ k. holds-conflict (M .conflict) k (z .at .activity .number) (z .after) ≡ false) (found-start m (h .processes) q at) (clears p q _ (apart h sound p is m q at off) (free m q at)))
         (back-free h sound p is b);
     restarts = λ p is e none. sound-changed M s h sound (p .start) p is (move Running (beginning (h .programs) (p .place))) (λ q. refl) record { pivot = sym (ap past-pivot e); row = λ r. withdrawing-rowless M Restart (p .at) (at-standing h sound p is e); placed = begins M s h sound (p .place) };
     leaves = λ p is e none. sound-gone M s h sound (p .start) (none-left h sound p is e none);

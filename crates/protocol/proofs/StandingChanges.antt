@@ -22,7 +22,7 @@ use Rattle.program.specs.Grammar.{Body, finish, Choices, row, orElse}
 use Rattle.program.specs.Positions.{Rest, in-body, in-row, Position, outer, inner, alternative, into, alternative-of}
 use Rattle.protocol.specs.Log.{pivoted, prior, any, owned}
 use Rattle.protocol.specs.Hall.{Process, Hall, fresh, find, without, change, changed, stand, move, with-processes, past-pivot, running, body-of, beginning}
-use Rattle.protocol.specs.Rules.{marked, restarted, gone, turning, failed}
+use Rattle.protocol.specs.Rules.{marked, restarted, gone, next-alternative, failed}
 use Rattle.protocol.specs.Calls.{loaded, opened}
 use Rattle.protocol.proofs.Members.{In, Before, any-none, none-any}
 use Rattle.protocol.proofs.Processes.{found-start, find-map, from-map, to-map, change-keeps, from-changed, find-without, from-without, from-push, to-push, some-same, none-some}

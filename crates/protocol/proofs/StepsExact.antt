@@ -19,9 +19,9 @@ use Rattle.protocol.specs.declared.answer.Answer.the-variants.{Stepped}
 use Rattle.station.specs.Meaning.{Meaning}
 use Rattle.program.specs.Positions.{Position, alternative-of, into}
 use Rattle.protocol.specs.Ahead.{Next, nothing, plain, crossing, next}
-use Rattle.protocol.specs.Log.{Split, owned, rejoined, removed, or-here, last-of, unless-pivot, loose, pivoted}
+use Rattle.protocol.specs.Log.{Split, owned, rejoined, removed, or-here, last-of, unless-pivot, returnable, pivoted}
 use Rattle.protocol.specs.Hall.{Process, Hall, least, past-pivot, with-processes, going-back}
-use Rattle.protocol.specs.Rules.{blocks-back, blocks-plain, blocks-pivot, blocks-alone, blocks-commit, everybody, nobody, pivot-marks, marked, Outcome, answered, waits, unless-blocked, performed, restarted, gone, turning, undone, committing, backward, forward, by-standing, led, failed}
+use Rattle.protocol.specs.Rules.{blocks-back, blocks-plain, blocks-pivot, blocks-alone, blocks-commit, everybody, nobody, pivot-marks, marked, Outcome, answered, waits, unless-blocked, performed, restarted, gone, next-alternative, undone, committing, backward, forward, by-standing, standing-after, failed}
 use Rattle.protocol.specs.Relation.{In, Retreats, Advances, Past, ToTakeBack, NoneToTakeBack, BlocksBack, BlocksPlain, BlocksPivot, BlocksCommit, Nobody, Smallest, Marked, Free, free-plain, free-pivot, Steps, waits-back, takes-back, restarts, leaves, takes-next-alternative, waits-plain, waits-alone, waits-pivot, performs, fails, waits-commit, commits, Exact}
 use Rattle.protocol.proofs.Members.{in-here}
 use Rattle.protocol.proofs.LastRecords.{NotOf, Last, Loose, LooseIs, loose-is}
@@ -37,22 +37,22 @@ pub last-here : (n : ℕ) (before : List Record) (at : Record) (after : List Rec
 last-here n [] at after e free = ap (or-here n at after) (none-last n after free) ∙ ap (λ b. cond b (Some record { before = []; at = at; after = after }) None) (eq-eqb (at .start) n e)
 last-here n (x ∷ xs) at after e free = ap (or-here n x (xs ++ at ∷ after)) (last-here n xs at after e free)
 
-loose-to : (n : ℕ) (log : List Record) (z : Split) → ToTakeBack n log z → loose n log ≡ Some z
-loose-to n log z t = ap (loose n) (t .whole) ∙ ap unless-pivot (last-here n (z .before) (z .at) (z .after) (t .owner) (t .last)) ∙ ap (λ b. cond b None (Some z)) (t .plain)
+loose-to : (n : ℕ) (log : List Record) (z : Split) → ToTakeBack n log z → returnable n log ≡ Some z
+loose-to n log z t = ap (returnable n) (t .whole) ∙ ap unless-pivot (last-here n (z .before) (z .at) (z .after) (t .owner) (t .last)) ∙ ap (λ b. cond b None (Some z)) (t .plain)
 
 loose-from : (n : ℕ) (log : List Record) (z : Split) → Loose n log z → ToTakeBack n log z
 loose-from n log z l = record { whole = l .last .whole; owner = l .last .owner; last = l .last .after; plain = l .plain }
 
-loose-some : (n : ℕ) (log : List Record) (z : Split) → loose n log ≡ Some z → ToTakeBack n log z
+loose-some : (n : ℕ) (log : List Record) (z : Split) → returnable n log ≡ Some z → ToTakeBack n log z
 loose-some n log z e = loose-from n log z (subst (LooseIs n log) e (loose-is n log))
 
-loose-none : (n : ℕ) (log : List Record) → loose n log ≡ None → NoneToTakeBack n log
+loose-none : (n : ℕ) (log : List Record) → returnable n log ≡ None → NoneToTakeBack n log
 loose-none n log e z t = Rattle.protocol.proofs.Processes.none-some (sym e ∙ loose-to n log z t)
 
-none-loose : (n : ℕ) (log : List Record) → NoneToTakeBack n log → loose n log ≡ None
-none-loose n log free = go (loose n log) refl
+none-loose : (n : ℕ) (log : List Record) → NoneToTakeBack n log → returnable n log ≡ None
+none-loose n log free = go (returnable n log) refl
   where
-    go : (o : Option Split) → loose n log ≡ o → loose n log ≡ None
+    go : (o : Option Split) → returnable n log ≡ o → returnable n log ≡ None
     go None e = e
     go (Some z) e = absurd (free z (loose-some n log z e))
 
@@ -132,7 +132,7 @@ module _ {S : Type 0} (M : Meaning S) (h : Hall S) (p : Process) where
   came-forward adv (plain a to) e = came-plain adv a to e
   came-forward adv (crossing a to) e = came-crossing adv a to e
 
-  came-backward : Retreats (p .standing) → (on : Outcome S) → (NoneToTakeBack (p .start) (h .log) → Came on) → (o : Option Split) → loose (p .start) (h .log) ≡ o → Came (backward M h p on o)
+  came-backward : Retreats (p .standing) → (on : Outcome S) → (NoneToTakeBack (p .start) (h .log) → Came on) → (o : Option Split) → returnable (p .start) (h .log) ≡ o → Came (backward M h p on o)
   came-backward ret on none None e = none (loose-none (p .start) (h .log) e)
   came-backward ret on none (Some z) e = go (least t (h .processes)) refl
     where
@@ -146,9 +146,9 @@ module _ {S : Type 0} (M : Meaning S) (h : Hall S) (p : Process) where
   came : (st : Standing) → p .standing ≡ st → Came (by-standing M h p st)
   came Running e = came-forward (subst Advances (sym e) tt) (next (p .at)) refl
   came (PastPivot Forward) e = came-forward (subst Advances (sym e) refl) (next (p .at)) refl
-  came (PastPivot Back) e = came-backward (subst Retreats (sym e) refl) (turning h p) (λ none. (turns.Next (suc (alternative-of (p .at))), refl, takes-next-alternative e none)) (loose (p .start) (h .log)) refl
-  came (Withdrawing Restart) e = came-backward (subst Retreats (sym e) tt) (restarted h p) (λ none. (turns.Restarted, refl, restarts e none)) (loose (p .start) (h .log)) refl
-  came (Withdrawing End) e = came-backward (subst Retreats (sym e) tt) (gone h p) (λ none. (turns.Gone, refl, leaves e none)) (loose (p .start) (h .log)) refl
+  came (PastPivot Back) e = came-backward (subst Retreats (sym e) refl) (next-alternative h p) (λ none. (turns.Next (suc (alternative-of (p .at))), refl, takes-next-alternative e none)) (returnable (p .start) (h .log)) refl
+  came (Withdrawing Restart) e = came-backward (subst Retreats (sym e) tt) (restarted h p) (λ none. (turns.Restarted, refl, restarts e none)) (returnable (p .start) (h .log)) refl
+  came (Withdrawing End) e = came-backward (subst Retreats (sym e) tt) (gone h p) (λ none. (turns.Gone, refl, leaves e none)) (returnable (p .start) (h .log)) refl
 
   -- and nothing else is
 
@@ -158,11 +158,11 @@ module _ {S : Type 0} (M : Meaning S) (h : Hall S) (p : Process) where
   advancing (PastPivot Forward) a = refl
   advancing (PastPivot Back) a = absurd (true≢false (ap going-back a))
 
-  retreating-to : (z : Split) → loose (p .start) (h .log) ≡ Some z → (st : Standing) → Retreats st → by-standing M h p st ≡ unless-blocked h (blocks-back (M .conflict) p z) everybody (undone M h z)
+  retreating-to : (z : Split) → returnable (p .start) (h .log) ≡ Some z → (st : Standing) → Retreats st → by-standing M h p st ≡ unless-blocked h (blocks-back (M .conflict) p z) everybody (undone M h z)
   retreating-to z e Running r = absurd r
   retreating-to z e (Withdrawing Restart) r = ap (backward M h p (restarted h p)) e
   retreating-to z e (Withdrawing End) r = ap (backward M h p (gone h p)) e
-  retreating-to z e (PastPivot Back) r = ap (backward M h p (turning h p)) e
+  retreating-to z e (PastPivot Back) r = ap (backward M h p (next-alternative h p)) e
   retreating-to z e (PastPivot Forward) r = absurd (false≢true (ap going-back r))
 
   Is : Outcome S → Type 0
@@ -197,7 +197,7 @@ module _ {S : Type 0} (M : Meaning S) (h : Hall S) (p : Process) where
       ∙ sym (retreating-to z (loose-to (p .start) (h .log) z take) (p .standing) ret)
   only g t (restarts e none) = sym (ap (by-standing M h p) e ∙ ap (backward M h p (restarted h p)) (none-loose (p .start) (h .log) none))
   only g t (leaves e none) = sym (ap (by-standing M h p) e ∙ ap (backward M h p (gone h p)) (none-loose (p .start) (h .log) none))
-  only g t (takes-next-alternative e none) = sym (ap (by-standing M h p) e ∙ ap (backward M h p (turning h p)) (none-loose (p .start) (h .log) none))
+  only g t (takes-next-alternative e none) = sym (ap (by-standing M h p) e ∙ ap (backward M h p (next-alternative h p)) (none-loose (p .start) (h .log) none))
   only g t (waits-plain {a} {to} {n} {ps} adv e small marks) =
       forwards adv (plain a to) e (answered (with-processes h ps) (Stepped (turns.Wait n)))
       (ap (λ l. answered (with-processes h l) (Stepped (turns.Wait n))) (marked-to M p (λ q. blocks-plain (M .conflict) (h .log) p a q && everybody q) (BlocksPlain M h p a) (everybody-tells M p (blocks-plain (M .conflict) (h .log) p a) (BlocksPlain M h p a) (plain-tells M p h a)) (h .processes) ps marks)

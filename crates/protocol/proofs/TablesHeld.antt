@@ -24,9 +24,9 @@ use Rattle.station.specs.Meaning.{Meaning}
 use Rattle.program.specs.Grammar.{Body}
 use Rattle.program.specs.Positions.{Position, alternative-of, into}
 use Rattle.protocol.specs.Ahead.{next, plain, crossing}
-use Rattle.protocol.specs.Log.{Split, owned, own, rejoined, removed, loose, pivoted, committed-under}
+use Rattle.protocol.specs.Log.{Split, owned, own, rejoined, removed, returnable, pivoted, committed-under}
 use Rattle.protocol.specs.Hall.{Process, Hall, fresh, find, without, changed, stand, move, with-processes, past-pivot, running, beginning}
-use Rattle.protocol.specs.Rules.{marked, performed, failed, led, record-of}
+use Rattle.protocol.specs.Rules.{marked, performed, failed, standing-after, record-of}
 use Rattle.protocol.specs.Calls.{Call, outcome}
 use Rattle.protocol.specs.Room.{Genuine, Bounded}
 use Rattle.protocol.specs.Held.{Held, Rooms, Roomy}
@@ -56,11 +56,11 @@ failed-past Running e = refl
 failed-past (Withdrawing r) e = refl
 failed-past (PastPivot r) e = e
 
-led-past : (b : Bool) (st : Standing) → past-pivot (led b st) ≡ false → past-pivot st ≡ false
+led-past : (b : Bool) (st : Standing) → past-pivot (standing-after b st) ≡ false → past-pivot st ≡ false
 led-past true st e = absurd (true≢false e)
 led-past false st e = e
 
-led-plain : (b : Bool) (st : Standing) → past-pivot (led b st) ≡ false → b ≡ false
+led-plain : (b : Bool) (st : Standing) → past-pivot (standing-after b st) ≡ false → b ≡ false
 led-plain true st e = absurd (true≢false e)
 led-plain false st e = refl
 
@@ -145,7 +145,7 @@ module _ {S : Type 0} where
   owned-done h o starts p is pivot a to None = owned-changed h o p is (stand (failed (p .standing))) (λ q. refl) (failed-past (p .standing))
   owned-done h o starts p is pivot a to (Some d) =
       let new = record-of p pivot a (d .0) in
-      let f = move (led pivot (p .standing)) to in
+      let f = move (standing-after pivot (p .standing)) to in
       record {
         low = λ r i. ⊎-elim (o .low r) (λ e. subst (λ x. x .start ≤ h .given) (sym e) (found-low (h .given) (p .start) (h .processes) p starts is)) (in-push r (h .log) new i);
         active = λ r i z. ⊎-elim
@@ -189,7 +189,7 @@ module _ {S : Type 0} where
       }
 
   -- a process that withdraws and has nothing to take back has no record
-  none-left : (h : Hall S) → Owned h → (p : Process) → find (p .start) (h .processes) ≡ Some p → past-pivot (p .standing) ≡ false → loose (p .start) (h .log) ≡ None → NotOf (p .start) (h .log)
+  none-left : (h : Hall S) → Owned h → (p : Process) → find (p .start) (h .processes) ≡ Some p → past-pivot (p .standing) ≡ false → returnable (p .start) (h .log) ≡ None → NotOf (p .start) (h .log)
   none-left h o p is e none = ⊎-elim (λ x. x) (λ piv. absurd (both-ways (pivoted (h .log) (p .start)) (clear (h .log) (o .unpivoted (p .start) p is e)) piv)) (subst (LooseIs (p .start) (h .log)) none (loose-is (p .start) (h .log)))
     where
       and-false : (a b : Bool) → (a ≡ true → b ≡ false) → (a && b) ≡ false

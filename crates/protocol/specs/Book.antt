@@ -1,4 +1,4 @@
--- The book, fed with calls and answers.
+-- The book: what a hall has kept, as far as callers can tell. It is fed with calls and their answers, and with nothing else.
 use mathlib.Core.Bool.{Bool, true, false, not, cond}
 use mathlib.Core.List.{List, [], _∷_, _++_, map}
 use Prim.Native.Nat.{ℕ}

@@ -1,4 +1,4 @@
--- What each call comes to.
+-- What each call comes to, as a function, with the letters and numbers of the answers. What the rules say is the relation in Comes.antt; that the two agree is proved.
 use mathlib.Core.Bool.{Bool, true, false, not, cond, _&&_, _||_}
 use mathlib.Core.List.{List, [], _∷_, _++_, map}
 use Prim.Native.Nat.{ℕ, suc, _+_, _*_}

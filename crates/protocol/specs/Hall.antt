@@ -1,4 +1,4 @@
--- What a hall stands for.
+-- What a hall holds: the station, the log, the active processes, the programs by place, the last start number given and the last commit number.
 use mathlib.Core.Bool.{Bool, true, false, not, cond}
 use mathlib.Core.List.{List, [], _∷_, _++_, map}
 use Prim.Native.Nat.{ℕ, min}
@@ -15,6 +15,7 @@ use Rattle.protocol.specs.declared.standing.Standing.the-variants.{Running, Wi
 use Rattle.program.specs.Grammar.{Body, finish}
 use Rattle.program.specs.Positions.{Position, outer}
 
+-- an active process: its start number, its program place, its standing, and where it is in its program
 pub record Process : Type 0 where
   pub start : ℕ
   pub place : ℕ

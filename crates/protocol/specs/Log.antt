@@ -48,8 +48,8 @@ unless-pivot None = None
 unless-pivot (Some s) = cond (s .at .pivot) None (Some s)
 
 -- the process's last record, unless that is a pivot: what a process that goes back takes back
-abbrev pub loose : ℕ → List Record → Option Split
-loose n log = unless-pivot (last-of n log)
+abbrev pub returnable : ℕ → List Record → Option Split
+returnable n log = unless-pivot (last-of n log)
 
 abbrev pub dropped : List Record → Option Split → List Record
 dropped log None = log

@@ -19,7 +19,7 @@ use Rattle.program.specs.Positions.{Position, alternative-of, into}
 use Rattle.protocol.specs.Ahead.{Next, nothing, plain, crossing, next}
 use Rattle.protocol.specs.Log.{Split, rejoined, removed, own, from-pivot, committed-under}
 use Rattle.protocol.specs.Hall.{Process, Hall, without, changed, stand, move, with-processes, beginning, past-pivot}
-use Rattle.protocol.specs.Rules.{record-of, led, failed, by-standing, answered}
+use Rattle.protocol.specs.Rules.{record-of, standing-after, failed, by-standing, answered}
 use Rattle.protocol.specs.declared.answer.Answer.the-variants.{Stepped}
 
 -- x stands in the list
@@ -113,7 +113,7 @@ module _ {S : Type 0} where
     free-pivot : {a : Activity} {to : Position} → next (p .at) ≡ crossing a to → ((Past p → ⊥) → Nobody h p Past) → Nobody h p (BlocksPivot M h p a) → Free M h p true a to
 
   abbrev pub kept : Hall S → Process → Bool → Activity → Position → ℕ → S → Hall S
-  kept h p pivot a to x t = record { station = t; log = h .log ++ record-of p pivot a x ∷ []; processes = changed (p .start) (move (led pivot (p .standing)) to) (h .processes); programs = h .programs; given = h .given; committed = h .committed }
+  kept h p pivot a to x t = record { station = t; log = h .log ++ record-of p pivot a x ∷ []; processes = changed (p .start) (move (standing-after pivot (p .standing)) to) (h .processes); programs = h .programs; given = h .given; committed = h .committed }
 
   pub data Steps (M : Meaning S) (h : Hall S) (p : Process) : Hall S → Turn → Type 0 where
     -- going backward
