@@ -34,10 +34,19 @@ pivots-apart : Comes-out worked.pivots-apart
 unfolding first-lanes lane-of with-lane decLe
 pivots-apart = refl
 
+younger-gives-way : Comes-out worked.younger-gives-way
+unfolding first-lanes lane-of with-lane decLe
+younger-gives-way = refl
+
+pivot-waits-for-older : Comes-out worked.pivot-waits-for-older
+unfolding first-lanes lane-of with-lane decLe
+pivot-waits-for-older = refl
+
 pub halls : Worked-texts → Worked-halls
 halls texts = record {
   take-one-text = record { spelled = refl; short = lit≤ tt; few = lit≤ tt; shallow = lit≤ tt };
   give-one-text = record { spelled = refl; short = lit≤ tt; few = lit≤ tt; shallow = lit≤ tt };
+  give-then-flag-text = record { spelled = refl; short = lit≤ tt; few = lit≤ tt; shallow = lit≤ tt };
   take-send-flag-text = record { spelled = refl; short = lit≤ tt; few = lit≤ tt; shallow = lit≤ tt };
   flag-then-give-text = record { spelled = refl; short = lit≤ tt; few = lit≤ tt; shallow = lit≤ tt };
   refused-and-left = refused-and-left;
@@ -46,5 +55,7 @@ halls texts = record {
   past-pivot-stays = past-pivot-stays;
   second-alternative = second-alternative;
   pivots-apart = pivots-apart;
+  younger-gives-way = younger-gives-way;
+  pivot-waits-for-older = pivot-waits-for-older;
   texts = texts;
 }

@@ -49,6 +49,10 @@ take-send-flag = compensatable (at-lane-3 0) (pivot (at-lane-3 3) (row (at-lane-
 abbrev pub flag-then-give : Body
 flag-then-give = pivot (at-lane-3 4) (orElse (compensatable (at-lane-3 1) finish) (row []))
 
+-- a bag is given out; then the lane is flagged, as a pivot
+abbrev pub give-then-flag : Body
+give-then-flag = compensatable (at-lane-3 1) (pivot (at-lane-3 4) (row []))
+
 -- ---- a worked hall: calls, each with its answer
 
 abbrev pub Line : Type 0
@@ -140,11 +144,34 @@ pivots-apart =
     ∷ step 2 (Wait 1)
     ∷ [])
 
+abbrev pub younger-gives-way : List Line
+younger-gives-way =
+    together give-one take-one
+    (step 2 (Done 0)
+    ∷ step 1 (Wait 2)
+    ∷ step 2 (Undone 0)
+    ∷ step 2 Restarted
+    ∷ step 1 Failed
+    ∷ [])
+
+abbrev pub pivot-waits-for-older : List Line
+pivot-waits-for-older =
+    together take-one give-then-flag
+    (step 1 (Done 0)
+    ∷ step 2 (Done 0)
+    ∷ step 2 (Wait 1)
+    ∷ step 1 (Committed 1)
+    ∷ step 2 (Done 0)
+    ∷ step 2 (Committed 2)
+    ∷ [])
+
 pub record Worked-halls : Type 0 where
   -- `C 00 0003 .`
   pub take-one-text : Yields (67 ∷ 0 ∷ 0 ∷ 3 ∷ 46 ∷ []) take-one
   -- `C 01 0003 .`
   pub give-one-text : Yields (67 ∷ 1 ∷ 0 ∷ 3 ∷ 46 ∷ []) give-one
+  -- `C 01 0003 P 04 0003 [ ] .`
+  pub give-then-flag-text : Yields (67 ∷ 1 ∷ 0 ∷ 3 ∷ 80 ∷ 4 ∷ 0 ∷ 3 ∷ 91 ∷ 93 ∷ 46 ∷ []) give-then-flag
   -- `C 00 0003 P 03 0003 [ R 04 0003 ] .`
   pub take-send-flag-text : Yields (67 ∷ 0 ∷ 0 ∷ 3 ∷ 80 ∷ 3 ∷ 0 ∷ 3 ∷ 91 ∷ 82 ∷ 4 ∷ 0 ∷ 3 ∷ 93 ∷ 46 ∷ []) take-send-flag
   -- `P 04 0003 [ C 01 0003 | ] .`
@@ -161,5 +188,9 @@ pub record Worked-halls : Type 0 where
   pub second-alternative : Comes-out second-alternative
   -- two orders are not past a pivot at once: the second waits
   pub pivots-apart : Comes-out pivots-apart
+  -- the first order's step meets the second's: the second, younger, takes it back and restarts
+  pub younger-gives-way : Comes-out younger-gives-way
+  -- the second order gave out the bag that the first took in: it waits with its pivot until the first has committed
+  pub pivot-waits-for-older : Comes-out pivot-waits-for-older
   -- the texts worked through
   pub texts : Worked-texts
