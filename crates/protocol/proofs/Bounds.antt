@@ -26,7 +26,7 @@ use Rattle.program.specs.Positions.{Position, into, alternative-of}
 use Rattle.protocol.specs.Hall.{Process, Hall, fresh, find, without, change, changed, stand, move, with-processes, running, beginning}
 use Rattle.protocol.specs.Rules.{marked, performed, failed, standing-after}
 use Rattle.protocol.specs.Calls.{Call, else, against-open, outcome, ends, committed-records, Event, all-singles}
-use Rattle.protocol.specs.Statements.{hall-after}
+use Rattle.protocol.proofs.Computed.{hall-after}
 use Rattle.protocol.specs.Room.{Bounded, StaysBounded}
 use Rattle.protocol.proofs.Processes.{change-keeps, none-some}
 use Rattle.protocol.proofs.CallCases.{cases}
@@ -138,5 +138,5 @@ module _ {S : Type 0} where
   bounded-ends M h b [] = b
   bounded-ends M h b (c ∷ cs) = bounded-ends M (outcome M h c .hall) (bounded-outcome M h b c) cs
 
-pub stays-bounded : {S : Type 0} (M : Meaning S) → Laws M → StaysBounded M
+pub stays-bounded : {S : Type 0} (M : Meaning S) → Laws M → (s : S) (es : List Event) → Bounded (hall-after M s es)
 stays-bounded M laws s es = subst Bounded (sym (all-is M laws (fresh s) es)) (bounded-ends M (fresh s) record { given = omega arith; active = omega arith; committed = omega arith; rising = tt; starts = tt } (all-singles es))

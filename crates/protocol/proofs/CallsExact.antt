@@ -229,7 +229,7 @@ module _ {S : Type 0} (M : Meaning S) where
   works h [] = none-left
   works h (r ∷ rs) = one-by-one (works-one h r (call-of r) refl) (works (one M h (call-of r) .hall) rs)
 
-  served : (h : Hall S) (rs : List Request) → scanned M h rs .refusal ≡ None
+  pub served : (h : Hall S) (rs : List Request) → scanned M h rs .refusal ≡ None
   served h [] = refl
   served h (r ∷ rs) = served (one M h (call-of r) .hall) rs
 

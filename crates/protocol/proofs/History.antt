@@ -23,7 +23,7 @@ use Rattle.protocol.specs.Hall.{Process, Hall, find}
 use Rattle.protocol.specs.Rules.{Outcome, answered, step-of}
 use Rattle.protocol.specs.Calls.{Call, loading, installing, opening, stepping, cancelling, else, refused-or, against-open, opened, cancel-by, cancel-of, outcome, call-of, written, one, scanned, Event, call, scan, after, after-all}
 use Rattle.protocol.specs.Book.{Entry, Book, seek, on-step, noted, answer-told, noted-if, noted-record, noted-records, scan-served, scan-refused, heard, book-of}
-use Rattle.protocol.specs.Statements.{tells, history}
+use Rattle.protocol.proofs.Computed.{tells, history}
 use Rattle.protocol.proofs.Sound.{Sound}
 use Rattle.protocol.proofs.SoundKept.{sound-outcome}
 use Rattle.protocol.proofs.Books.{view, noted-is}

@@ -11,6 +11,7 @@ pub mod SoundKept
 pub mod Books
 pub mod PivotsStay
 pub mod Ties
+pub mod Computed
 pub mod History
 pub mod Promise
 pub mod StepsExact
@@ -21,3 +22,4 @@ pub mod Bounds
 pub mod TablesHeld
 pub mod Blocking
 pub mod CallsExact
+pub mod EveryRun

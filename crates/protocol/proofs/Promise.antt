@@ -1,4 +1,4 @@
--- The two rules.
+-- The promise, over the run that the functions compute.
 use mathlib.Core.Path.{_≡_, refl, sym, ap, subst, _∙_}
 use mathlib.Core.Bool.{Bool, true, false, not, cond, _&&_, _||_}
 use mathlib.Core.List.{List, [], _∷_, _++_, map, append-assoc}
@@ -27,7 +27,8 @@ use Rattle.protocol.specs.declared.scan.Request.{Request}
 use Rattle.protocol.proofs.Ranks.{Later, later}
 use Rattle.program.specs.Places.{nth}
 use Rattle.protocol.specs.Book.{Book, empty}
-use Rattle.protocol.specs.Statements.{hall-after, book-after, Agree, Agrees, Orderly, without-commit-number, Begins, Stays}
+use Rattle.protocol.specs.Statements.{Agree, Orderly, without-commit-number, Begins, Fixed}
+use Rattle.protocol.proofs.Computed.{hall-after, book-after, history}
 use Rattle.protocol.proofs.Members.{In, pairs-from, all-from, before-first, before-second}
 use Rattle.std.specs.shelf.Lists.{All}
 use Rattle.protocol.proofs.Sound.{Sound}
@@ -128,7 +129,7 @@ module _ {S : Type 0} (M : Meaning S) (laws : Laws M) where
       one-serial-order (prior (pivoted (h .log))) (λ r. r .start) run (orderly (h .log)) (o .sorted) (sorted-orderly (h .log)) (λ n. o .each n ∙ sym (own-orderly n s h sound))
       (all-from (λ a. All (λ b. prior (pivoted (h .log)) a b ≡ true → prior (pivoted (h .log)) b a ≡ true → a .start ≡ b .start) (orderly (h .log))) run λ a i. all-from (λ b. prior (pivoted (h .log)) a b ≡ true → prior (pivoted (h .log)) b a ≡ true → a .start ≡ b .start) (orderly (h .log)) λ b j. tied (pivoted (h .log)) a b (sound .numbers a b (in-own run (h .log) (o .each) a i) (in-own (orderly (h .log)) (h .log) (λ n. own-orderly n s h sound) b j)))
 
-  pub agrees : Agrees M
+  pub agrees : (s : S) (es : List Event) → Agree M s (history M (fresh s) es) (hall-after M s es)
   agrees s es = record {
     same = sym (kept-is s es);
     only = subst (λ l. (run : List Record) → Orderly l run → run ≡ orderly l) (sym (kept-is s es)) (one-orderly s (hall-after M s es) (sound-after s es));
@@ -140,7 +141,7 @@ module _ {S : Type 0} (M : Meaning S) (laws : Laws M) where
   own-kept : (n : ℕ) (s : S) (es : List Event) → own n (orderly (book-after M s es .kept)) ≡ own n (hall-after M s es .log)
   own-kept n s es = ap (λ l. own n (orderly l)) (kept-is s es) ∙ own-orderly n s (hall-after M s es) (sound-after s es)
 
-  pub stays : Stays M
+  pub stays : (s : S) (es more : List Event) (n : ℕ) → Fixed (history M (fresh s) es) (history M (fresh s) (es ++ more)) n
   stays s es more n =
       let later : hall-after M s (es ++ more) ≡ ends M (hall-after M s es) (all-singles more) = all-is (fresh s) (es ++ more) ∙ ap (ends M (fresh s)) (singles-append es more) ∙ ends-append (fresh s) (all-singles es) (all-singles more) ∙ ap (λ g. ends M g (all-singles more)) (sym (all-is (fresh s) es)) in
       let log = hall-after M s es .log in

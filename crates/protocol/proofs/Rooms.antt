@@ -32,8 +32,9 @@ use Rattle.protocol.specs.Hall.{Process, Hall, fresh, find, without, change, c
 use Rattle.protocol.specs.Rules.{marked, performed, undone, committing, failed, standing-after, record-of}
 use Rattle.protocol.specs.Calls.{Call, else, against-open, loaded, opened, outcome, ends, committed-records, Event, all-singles}
 use Rattle.protocol.proofs.CallCases.{cases}
-use Rattle.protocol.specs.Statements.{hall-after, without-commit-number}
-use Rattle.protocol.specs.Room.{Genuine, HasRoom}
+use Rattle.protocol.specs.Statements.{without-commit-number}
+use Rattle.protocol.proofs.Computed.{hall-after}
+use Rattle.protocol.specs.Room.{Genuine}
 use Rattle.protocol.proofs.Members.{In, none-any}
 use Rattle.protocol.proofs.Processes.{found-start, from-map, change-keeps, from-changed, from-without, from-push, some-same, none-some}
 use Rattle.protocol.proofs.LastRecords.{NotOf, Loose, LooseIs, loose-is}
@@ -236,5 +237,5 @@ module _ {S : Type 0} where
       each n (Some q) e = omega (arith, fewer-own n (λ r. eqb (r .commit) 0) (h .log), roomy-few (own n (h .log)) (q .at) (rooms .actives n q e))
       each n None e = omega (arith, ap length (own-none n (kept-by (λ r. eqb (r .commit) 0) (h .log)) (λ r i f. let (j, c) = kept-in (λ r. eqb (r .commit) 0) (h .log) r i in let (q, at) = active r j (eqb-true (r .commit) 0 c) in none-some (sym e ∙ ap (λ k. find k (h .processes)) (sym f) ∙ at))))
 
-pub has-room : {S : Type 0} (M : Meaning S) → Laws M → HasRoom M
+pub has-room : {S : Type 0} (M : Meaning S) → Laws M → (s : S) (es : List Event) → All Genuine (all-singles es) → length (hall-after M s es .log) ≤ 1024
 has-room M laws s es read = subst (λ h. length (h .log) ≤ 1024) (sym (all-is M laws (fresh s) es)) (few (ends M (fresh s) (all-singles es)) (λ r i. sound-ends M laws s (fresh s) (sound-fresh M s) (all-singles es) .owners r i .active) (rooms-ends M laws s (fresh s) (sound-fresh M s) (rooms-fresh M laws s) (all-singles es) read))

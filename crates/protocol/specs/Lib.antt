@@ -7,8 +7,8 @@ pub mod Rules
 pub mod Calls
 pub mod Book
 pub mod Questions
-pub mod Statements
 pub mod Relation
 pub mod Comes
+pub mod Statements
 pub mod Room
 pub mod Held

@@ -1,7 +1,9 @@
-use Rattle.protocol.proofs.Rooms.{has-room}
+use Rattle.protocol.specs.Means.{Laws}
+use Rattle.protocol.proofs.EveryRun.{has-room}
 use Rattle.protocol.proofs.theorems.room_stays.Needs as need
 
 pub returns : need.returns
 returns g c =
-    let laws = g .S·Station·met in
-    has-room (g .S·Station .meaning) record { restores = laws .restores; commutes = laws .commutes; symmetric = laws .symmetric; retries = laws .retries; bounded = laws .bounded }
+    let met = g .S·Station·met in
+    let laws : Laws (g .S·Station .meaning) = record { restores = met .restores; commutes = met .commutes; symmetric = met .symmetric; retries = met .retries; bounded = met .bounded } in
+    has-room (g .S·Station .meaning) laws

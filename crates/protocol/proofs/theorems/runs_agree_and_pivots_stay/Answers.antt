@@ -1,5 +1,5 @@
-use Rattle.protocol.proofs.Promise.{agrees, stays}
 use Rattle.protocol.specs.Means.{Laws}
+use Rattle.protocol.proofs.EveryRun.{agrees, stays}
 use Rattle.protocol.proofs.theorems.runs_agree_and_pivots_stay.Needs as need
 
 pub returns : need.returns
