@@ -123,8 +123,8 @@ module _ {S : Type 0} (M : Meaning S) (laws : Laws M) (s : S) where
   noted-is h sound = cases M h (Noted h) record {
     refused = refused;
     waited = λ p is told n. on-its h p is (answered (with-processes h (map (marked told) (h .processes))) (Stepped (turns.Wait n))) (ap (with-entries (view h)) (told-entries told (h .processes)));
-    loads = λ k b e. refl;
-    installs = λ k t b e. refl;
+    loads = λ k b w e. refl;
+    installs = λ k t b w e. refl;
     opens = λ k e. ap (with-entries (view h)) (pushed-is (h .processes) record { start = suc (h .given); place = k; standing = Running; at = beginning (h .programs) k });
     cancels = λ p is e. ap (with-entries (view h)) (stood (p .start) (Withdrawing End) (h .processes));
     steps = λ p is g a to n free o e. on-its h p is (performed h p false a to o) (noted-performed h p false a to (λ x. ap (keep-next (view h) (p .start) x) n) o);
@@ -137,8 +137,8 @@ module _ {S : Type 0} (M : Meaning S) (laws : Laws M) (s : S) where
   }
     where
       refused : (c : Call) (r : Refusal) → Noted h c (answered h (Refused r))
-      refused (loading k b) r = refl
-      refused (installing k t b o) r = refl
+      refused (loading k b w) r = refl
+      refused (installing k t b o w) r = refl
       refused (opening k) r = refl
       refused (stepping n) r = go (seek n (map entry-of (h .processes)))
         where

@@ -99,8 +99,8 @@ module _ {S : Type 0} where
   bounded-outcome M h b = cases M h (λ c o. Bounded (o .hall)) record {
     refused = λ c r. b;
     waited = λ p is told n. bounded-map h b (marked told) (λ q. keeps told q (told q && running (q .standing)));
-    installs = λ k t p e. record { given = b .given; active = b .active; committed = b .committed; rising = b .rising; starts = b .starts };
-    loads = λ k p e. record { given = b .given; active = b .active; committed = b .committed; rising = b .rising; starts = b .starts };
+    installs = λ k t p w e. record { given = b .given; active = b .active; committed = b .committed; rising = b .rising; starts = b .starts };
+    loads = λ k p w e. record { given = b .given; active = b .active; committed = b .committed; rising = b .rising; starts = b .starts };
     opens = opens;
     cancels = λ p is e. bounded-changed h b (p .start) (stand (Withdrawing End)) (λ q. refl);
     steps = λ p is g a to n free o e. bounded-done h b p false a to o;

@@ -17,13 +17,13 @@ use Rattle.protocol.specs.declared.standing.Standing.the-variants.{Running, Wi
 use Rattle.protocol.specs.declared.answer.Turn.the-variants.{Wait}
 use Rattle.protocol.specs.declared.answer.Answer.the-variants.{Stepped, Refused, Cancelled}
 use Rattle.station.specs.Meaning.{Meaning}
-use Rattle.program.specs.Grammar.{Body}
+use Rattle.program.specs.Grammar.{Body, Yields}
 use Rattle.program.specs.Positions.{Position}
 use Rattle.protocol.specs.Ahead.{Next, nothing, plain, crossing, next}
 use Rattle.protocol.specs.Log.{Split, returnable}
 use Rattle.protocol.specs.Hall.{Process, Hall, find, least, with-processes, changed, stand}
 use Rattle.protocol.specs.Rules.{blocks-back, blocks-plain, blocks-pivot, blocks-alone, blocks-commit, everybody, nobody, pivot-marks, marked, Outcome, answered, waits, unless-blocked, performed, restarted, gone, next-alternative, undone, committing, backward, forward, by-standing, step-of}
-use Rattle.protocol.specs.Calls.{Call, loading, installing, opening, stepping, cancelling, refused-or, against-load, against-open, loaded, opened, cancel-by, cancel-of, outcome}
+use Rattle.protocol.specs.Calls.{Call, IsProgram, loading, installing, opening, stepping, cancelling, refused-or, against-load, against-open, loaded, opened, cancel-by, cancel-of, outcome}
 use Rattle.protocol.proofs.Processes.{found-start, nobody-passes}
 
 module _ {S : Type 0} (M : Meaning S) (h : Hall S) where
@@ -44,8 +44,8 @@ module _ {S : Type 0} (M : Meaning S) (h : Hall S) where
   pub record Leaves (P : Call → Outcome S → Type 0) : Type 0 where
     pub refused : (c : Call) (r : Refusal) → P c (answered h (Refused r))
     pub waited : (p : Process) → Here p → (told : Process → Bool) (n : ℕ) → P (stepping (p .start)) (answered (with-processes h (map (marked told) (h .processes))) (Stepped (Wait n)))
-    pub loads : (k : ℕ) (b : Body) → against-load M h k b ≡ None → P (loading k b) (loaded h k b)
-    pub installs : (k : ℕ) (t : List ℕ) (b : Body) → against-load M h k b ≡ None → P (installing k t b None) (loaded h k b)
+    pub loads : (k : ℕ) (b : Body) (w : IsProgram b) → against-load M h k b ≡ None → P (loading k b w) (loaded h k b)
+    pub installs : (k : ℕ) (t : List ℕ) (b : Body) (read : Yields t b) → against-load M h k b ≡ None → P (installing k t b None read) (loaded h k b)
     pub opens : (k : ℕ) → against-open h k ≡ None → P (opening k) (opened h k)
     pub cancels : (p : Process) → Here p → p .standing ≡ Running → P (cancelling (p .start)) (answered (with-processes h (changed (p .start) (stand (Withdrawing End)) (h .processes))) Cancelled)
     pub steps : (p : Process) → Here p → Going p → (a : Activity) (to : Position) → next (p .at) ≡ plain a to → Passes (blocks-plain (M .conflict) (h .log) p a) → (o : Option (ℕ × S)) → M .performed (h .station) a ≡ o → P (stepping (p .start)) (performed h p false a to o)
@@ -92,17 +92,17 @@ module _ {S : Type 0} (M : Meaning S) (h : Hall S) where
       cancelled-by (PastPivot back) e = all .refused (cancelling (p .start)) IsPastPivot
 
     pub cases : (c : Call) → P c (outcome M h c)
-    cases (loading k b) = go (against-load M h k b) refl
+    cases (loading k b w) = go (against-load M h k b) refl
       where
-        go : (o : Option Refusal) → against-load M h k b ≡ o → P (loading k b) (refused-or h o (loaded h k b))
-        go None e = all .loads k b e
-        go (Some r) e = all .refused (loading k b) r
-    cases (installing k t b None) = go (against-load M h k b) refl
+        go : (o : Option Refusal) → against-load M h k b ≡ o → P (loading k b w) (refused-or h o (loaded h k b))
+        go None e = all .loads k b w e
+        go (Some r) e = all .refused (loading k b w) r
+    cases (installing k t b None w) = go (against-load M h k b) refl
       where
-        go : (o : Option Refusal) → against-load M h k b ≡ o → P (installing k t b None) (refused-or h o (loaded h k b))
-        go None e = all .installs k t b e
-        go (Some r) e = all .refused (installing k t b None) r
-    cases (installing k t b (Some e)) = all .refused (installing k t b (Some e)) (BadText e)
+        go : (o : Option Refusal) → against-load M h k b ≡ o → P (installing k t b None w) (refused-or h o (loaded h k b))
+        go None e = all .installs k t b w e
+        go (Some r) e = all .refused (installing k t b None w) r
+    cases (installing k t b (Some e) w) = all .refused (installing k t b (Some e) w) (BadText e)
     cases (opening k) = go (against-open h k) refl
       where
         go : (o : Option Refusal) → against-open h k ≡ o → P (opening k) (refused-or h o (opened h k))

@@ -29,7 +29,7 @@ use Rattle.protocol.specs.Log.{any}
 use Rattle.protocol.specs.Hall.{Process, Hall, find}
 use Rattle.protocol.specs.Rules.{Outcome, answered, step-of}
 use Rattle.protocol.specs.Relation.{In}
-use Rattle.protocol.specs.Calls.{Call, loading, installing, opening, stepping, cancelling, else, fits, fault, faults, committed-records, refused-or, against-load, loaded, against-open, opened, cancel-by, cancel-of, outcome, call-of, written, Scan, one, scanned, scan-outcome}
+use Rattle.protocol.specs.Calls.{Call, IsProgram, loading, installing, opening, stepping, cancelling, else, fits, fault, faults, committed-records, refused-or, against-load, loaded, against-open, opened, cancel-by, cancel-of, outcome, call-of, written, Scan, one, scanned, scan-outcome}
 use Rattle.protocol.specs.Comes.{Of-kind, Fits, Unfit, no-such-activity, of-another-kind, further-on, Unused, Is-loaded, demand, Comes, load-nowhere, load-busy, load-unfit, loads, install-no-program, installs, open-nowhere, open-not-loaded, open-full, open-no-number, open-no-room, opens, step-nobody, steps, cancel-nobody, cancel-past-pivot, cancel-withdrawing, cancels, Calls-exactly, Works-one, known, unknown, Works, none-left, one-by-one, Scans, too-long, worked, Exactly-one-scan, Scans-exactly}
 use Rattle.protocol.proofs.Members.{some-any, any-none}
 use Rattle.protocol.proofs.StepsExact.{exact}
@@ -107,7 +107,7 @@ module _ {S : Type 0} (M : Meaning S) where
     Allowed c o = Comes M h c (o .hall) (o .answer)
 
     -- ---- loading
-    module _ (k : ℕ) (b : Body) where
+    module _ (k : ℕ) (b : Body) (w : IsProgram b) where
       abbrev runs-there : Process → Bool
       runs-there q = eqb (q .place) k
 
@@ -120,13 +120,13 @@ module _ {S : Type 0} (M : Meaning S) where
       used-not : Unused M h k → any runs-there (h .processes) ≡ false
       used-not u = not-true-false (any runs-there (h .processes)) (λ e. let (q, i, t) = in-any runs-there (h .processes) e in u q i (eqb-true (q .place) k t))
 
-      load-allowed : (far busy : Bool) (unfit : Option Refusal) → ltb 7 k ≡ far → any runs-there (h .processes) ≡ busy → faults M 0 (body-steps b) ≡ unfit → Allowed (loading k b) (load-by far busy unfit)
+      load-allowed : (far busy : Bool) (unfit : Option Refusal) → ltb 7 k ≡ far → any runs-there (h .processes) ≡ busy → faults M 0 (body-steps b) ≡ unfit → Allowed (loading k b w) (load-by far busy unfit)
       load-allowed true busy unfit e f g = load-nowhere (ltb-true 7 k e)
       load-allowed false true unfit e f g = let (q, i, t) = in-any runs-there (h .processes) f in load-busy q (ltb-false 7 k e) i (eqb-true (q .place) k t)
       load-allowed false false (Some r) e f g = load-unfit (ltb-false 7 k e) (unused f) (first-unfit 0 (body-steps b) r g)
       load-allowed false false None e f g = loads (ltb-false 7 k e) (unused f) (all-fit 0 (body-steps b) g)
 
-      load-only : (g : Hall S) (a : Answer) → Comes M h (loading k b) g a → answered g a ≡ load-by (ltb 7 k) (any runs-there (h .processes)) (faults M 0 (body-steps b))
+      load-only : (g : Hall S) (a : Answer) → Comes M h (loading k b w) g a → answered g a ≡ load-by (ltb 7 k) (any runs-there (h .processes)) (faults M 0 (body-steps b))
       load-only g a (load-nowhere far) = λ j. load-by (sym (lt-ltb 7 k far) j) (any runs-there (h .processes)) (faults M 0 (body-steps b))
       load-only g a (load-busy q near i at) = λ j. load-by (sym (le-ltb 7 k near) j) (sym (some-any runs-there (h .processes) q i (eq-eqb (q .place) k at)) j) (faults M 0 (body-steps b))
       load-only g a (load-unfit {r = r} near u f) = λ j. load-by (sym (le-ltb 7 k near) j) (sym (used-not u) j) (sym (faulted 0 (body-steps b) r f) j)
@@ -202,17 +202,17 @@ module _ {S : Type 0} (M : Meaning S) where
       cancel-only g a (cancels {p = p} e f) = ap (cancel-by h p) (sym f) ∙ ap (cancel-of h) (sym e)
 
     allowed : (c : Call) → Allowed c (outcome M h c)
-    allowed (loading k b) = load-allowed k b (ltb 7 k) (any (runs-there k b) (h .processes)) (faults M 0 (body-steps b)) refl refl refl
-    allowed (installing k t b None) = installs (load-allowed k b (ltb 7 k) (any (runs-there k b) (h .processes)) (faults M 0 (body-steps b)) refl refl refl)
-    allowed (installing k t b (Some e)) = install-no-program
+    allowed (loading k b w) = load-allowed k b w (ltb 7 k) (any (runs-there k b w) (h .processes)) (faults M 0 (body-steps b)) refl refl refl
+    allowed (installing k t b None w) = installs (load-allowed k b (t, w) (ltb 7 k) (any (runs-there k b (t, w)) (h .processes)) (faults M 0 (body-steps b)) refl refl refl)
+    allowed (installing k t b (Some e) w) = install-no-program
     allowed (opening k) = open-allowed k (ltb 7 k) (isSome (at-place k)) (full-now k) (last-now k) (over-now k) refl refl refl refl refl
     allowed (stepping n) = step-allowed n (find n (h .processes)) refl
     allowed (cancelling n) = cancel-allowed n (find n (h .processes)) refl
 
     only : (c : Call) (g : Hall S) (a : Answer) → Comes M h c g a → answered g a ≡ outcome M h c
-    only (loading k b) g a x = load-only k b g a x
-    only (installing k t b None) g a (installs x) = load-only k b g a x
-    only (installing k t b (Some e)) g a install-no-program = refl
+    only (loading k b w) g a x = load-only k b w g a x
+    only (installing k t b None w) g a (installs x) = load-only k b (t, w) g a x
+    only (installing k t b (Some e) w) g a install-no-program = refl
     only (opening k) g a x = open-only k g a x
     only (stepping n) g a x = step-only n g a x
     only (cancelling n) g a x = cancel-only n g a x

@@ -7,7 +7,6 @@ use lib.Dec.{ltb}
 use lib.ListN.{length}
 use Rattle.std.specs.declared.option.Option.{Option}
 use Rattle.std.specs.declared.option.Option.the-variants.{Some, None}
-use Rattle.std.specs.shelf.Lists.{All}
 use Rattle.station.specs.Meaning.{Meaning}
 use Rattle.protocol.specs.declared.answer.Answer.{Answer}
 use Rattle.protocol.specs.declared.answer.Refusal.{Refusal}
@@ -15,11 +14,11 @@ use Rattle.protocol.specs.declared.answer.Refusal.the-variants.{LongList}
 use Rattle.protocol.specs.declared.scan.Request.{Request}
 use Rattle.protocol.specs.Means.{Laws}
 use Rattle.protocol.specs.Hall.{Hall, fresh}
-use Rattle.protocol.specs.Calls.{Call, Event, call, scan, all-singles, outcome, scanned, scan-outcome, after, after-all}
+use Rattle.protocol.specs.Calls.{Call, Event, call, scan, outcome, scanned, scan-outcome, after, after-all}
 use Rattle.protocol.specs.Book.{Told, called, scan-served, scan-refused}
 use Rattle.protocol.specs.Comes.{Comes, Scans}
 use Rattle.protocol.specs.Statements.{Runs, no-more, by-call, by-scan, scan-told, OneRun, RunsExactly, Agree, Agrees, Fixed, Stays}
-use Rattle.protocol.specs.Room.{Genuine, HasRoom, Bounded, StaysBounded}
+use Rattle.protocol.specs.Room.{HasRoom, Bounded, StaysBounded}
 use Rattle.protocol.proofs.Computed.{tells, history, hall-after}
 use Rattle.protocol.proofs.CallsExact.{calls-exactly, scans-exactly, served}
 use Rattle.protocol.proofs.Promise as promise
@@ -76,7 +75,7 @@ module _ {S : Type 0} (M : Meaning S) where
         subst (λ l. Fixed l (ts ++ us) n) (sym told) (subst (λ l. Fixed (history M (fresh s) es) l n) (sym all) (promise.stays M laws s es more n))
 
     pub has-room : HasRoom M
-    has-room s es ts h read r = subst (λ g. length (g .log) ≤ 1024) (sym (only-computed (fresh s) es ts h r .1)) (rooms.has-room M laws s es read)
+    has-room s es ts h r = subst (λ g. length (g .log) ≤ 1024) (sym (only-computed (fresh s) es ts h r .1)) (rooms.has-room M laws s es)
 
     pub stays-bounded : StaysBounded M
     stays-bounded s es ts h r = subst Bounded (sym (only-computed (fresh s) es ts h r .1)) (bounds.stays-bounded M laws s es)

@@ -184,8 +184,8 @@ module _ {S : Type 0} (M : Meaning S) where
   turns h = cases M h (λ c o. Turn (h .log) (o .hall .log)) record {
     refused = λ c r. stays;
     waited = λ p is told n. stays;
-    loads = λ k b e. stays;
-    installs = λ k t b e. stays;
+    loads = λ k b w e. stays;
+    installs = λ k t b w e. stays;
     opens = λ k e. stays;
     cancels = λ p is e. stays;
     steps = λ p is g a to n free o e. pushes h p false a to o;

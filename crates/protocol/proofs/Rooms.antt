@@ -34,7 +34,6 @@ use Rattle.protocol.specs.Calls.{Call, else, against-open, loaded, opened, out
 use Rattle.protocol.proofs.CallCases.{cases}
 use Rattle.protocol.specs.Statements.{without-commit-number}
 use Rattle.protocol.proofs.Computed.{hall-after}
-use Rattle.protocol.specs.Room.{Genuine}
 use Rattle.protocol.proofs.Members.{In, none-any}
 use Rattle.protocol.proofs.Processes.{found-start, from-map, change-keeps, from-changed, from-without, from-push, some-same, none-some}
 use Rattle.protocol.proofs.LastRecords.{NotOf, Loose, LooseIs, loose-is}
@@ -186,21 +185,21 @@ into-room xs (outer b) k e room = room
 into-room xs (inner c j r) k e room = (room .0, omega (arith, e, ap rest-size (reached-alternative c k)))
 
 module _ {S : Type 0} (M : Meaning S) where
-  pub rooms-by : (h : Hall S) → NotOf (suc (h .given)) (h .log) → ((p : Process) → find (p .start) (h .processes) ≡ Some p → p .standing ≡ Withdrawing Restart → returnable (p .start) (h .log) ≡ None → NotOf (p .start) (h .log)) → Rooms h → (c : Call) → Genuine c → Rooms (outcome M h c .hall)
-  rooms-by h free none-of rooms = cases M h (λ c o. Genuine c → Rooms (o .hall)) record {
-    refused = λ c r read. rooms;
-    waited = λ p is told n read. rooms-marked h rooms told;
-    loads = λ k b e read. rooms-loaded h rooms k b (read .1 .few);
-    installs = λ k t b e read. rooms-loaded h rooms k b (read .few);
-    opens = λ k e read. rooms-opened h rooms free k (full k e);
-    cancels = λ p is e read. rooms-changed h rooms (p .start) p is (stand (Withdrawing End)) (λ q. refl) (rooms .actives (p .start) p is);
-    steps = λ p is g a to n free o e read. rooms-done h rooms p is false a to o (subst (NextRoom (own (p .start) (h .log))) n (next-room (own (p .start) (h .log)) (p .at) (rooms .actives (p .start) p is)));
-    crosses = λ p is g a to n alone free o e read. rooms-done h rooms p is true a to o (subst (NextRoom (own (p .start) (h .log))) n (next-room (own (p .start) (h .log)) (p .at) (rooms .actives (p .start) p is)));
-    commits = λ p is g n free read. rooms-committed h rooms p is;
-    takes-back = λ p is b z l free read. rooms-undone h rooms p is M z (subst (LooseIs (p .start) (h .log)) l (loose-is (p .start) (h .log)));
-    restarts = λ p is e none read. rooms-changed h rooms (p .start) p is (move Running (beginning (h .programs) (p .place))) (λ q. refl) (omega (arith, ap length (own-none (p .start) (h .log) (none-of p is e none)), fits-at (p .place) (h .programs) (rooms .programs)));
-    leaves = λ p is e none read. rooms-gone h rooms (p .start) p is;
-    turns = λ p is e none read. rooms-changed h rooms (p .start) p is (move (PastPivot Forward) (into (suc (alternative-of (p .at))) (p .at))) (λ q. refl) (into-room (own (p .start) (h .log)) (p .at) (suc (alternative-of (p .at))) (none-loose (p .start) (h .log) none) (rooms .actives (p .start) p is));
+  pub rooms-by : (h : Hall S) → NotOf (suc (h .given)) (h .log) → ((p : Process) → find (p .start) (h .processes) ≡ Some p → p .standing ≡ Withdrawing Restart → returnable (p .start) (h .log) ≡ None → NotOf (p .start) (h .log)) → Rooms h → (c : Call) → Rooms (outcome M h c .hall)
+  rooms-by h free none-of rooms = cases M h (λ c o. Rooms (o .hall)) record {
+    refused = λ c r. rooms;
+    waited = λ p is told n. rooms-marked h rooms told;
+    loads = λ k b w e. rooms-loaded h rooms k b (w .1 .few);
+    installs = λ k t b read e. rooms-loaded h rooms k b (read .few);
+    opens = λ k e. rooms-opened h rooms free k (full k e);
+    cancels = λ p is e. rooms-changed h rooms (p .start) p is (stand (Withdrawing End)) (λ q. refl) (rooms .actives (p .start) p is);
+    steps = λ p is g a to n free o e. rooms-done h rooms p is false a to o (subst (NextRoom (own (p .start) (h .log))) n (next-room (own (p .start) (h .log)) (p .at) (rooms .actives (p .start) p is)));
+    crosses = λ p is g a to n alone free o e. rooms-done h rooms p is true a to o (subst (NextRoom (own (p .start) (h .log))) n (next-room (own (p .start) (h .log)) (p .at) (rooms .actives (p .start) p is)));
+    commits = λ p is g n free. rooms-committed h rooms p is;
+    takes-back = λ p is b z l free. rooms-undone h rooms p is M z (subst (LooseIs (p .start) (h .log)) l (loose-is (p .start) (h .log)));
+    restarts = λ p is e none. rooms-changed h rooms (p .start) p is (move Running (beginning (h .programs) (p .place))) (λ q. refl) (omega (arith, ap length (own-none (p .start) (h .log) (none-of p is e none)), fits-at (p .place) (h .programs) (rooms .programs)));
+    leaves = λ p is e none. rooms-gone h rooms (p .start) p is;
+    turns = λ p is e none. rooms-changed h rooms (p .start) p is (move (PastPivot Forward) (into (suc (alternative-of (p .at))) (p .at))) (λ q. refl) (into-room (own (p .start) (h .log)) (p .at) (suc (alternative-of (p .at))) (none-loose (p .start) (h .log) none) (rooms .actives (p .start) p is));
   }
     where
       full : (k : ℕ) → against-open h k ≡ None → length (committed-records (h .log)) + 32 * (length (h .processes) + 1) ≤ 1024
@@ -211,12 +210,12 @@ module _ {S : Type 0} (M : Meaning S) where
           (last-none (when (ltb 7 k) NoPlace) (else (when (not (isSome (getD (h .programs) k None))) NotLoaded) (else (when (leb 16 (length (h .processes))) Full) (else (when (leb 65535 (h .given)) NoNumber) (when (ltb 1024 (length (committed-records (h .log)) + 32 * (length (h .processes) + 1))) NoRoom)))) e)))))
 
 module _ {S : Type 0} (M : Meaning S) (laws : Laws M) (s : S) where
-  rooms-outcome : (h : Hall S) → Sound M s h → Rooms h → (c : Call) → Genuine c → Rooms (outcome M h c .hall)
+  rooms-outcome : (h : Hall S) → Sound M s h → Rooms h → (c : Call) → Rooms (outcome M h c .hall)
   rooms-outcome h sound rooms = rooms-by M h (λ r i (f : r .start ≡ suc (h .given)). omega (arith, sound .owners r i .low)) (λ p is e none. none-left M laws s h sound p is e none) rooms
 
-  rooms-ends : (h : Hall S) → Sound M s h → Rooms h → (cs : List Call) → All Genuine cs → Rooms (ends M h cs)
-  rooms-ends h sound rooms [] read = rooms
-  rooms-ends h sound rooms (c ∷ cs) read = rooms-ends (outcome M h c .hall) (sound-outcome M laws s h sound c) (rooms-outcome h sound rooms c (read .0)) cs (read .1)
+  rooms-ends : (h : Hall S) → Sound M s h → Rooms h → (cs : List Call) → Rooms (ends M h cs)
+  rooms-ends h sound rooms [] = rooms
+  rooms-ends h sound rooms (c ∷ cs) = rooms-ends (outcome M h c .hall) (sound-outcome M laws s h sound c) (rooms-outcome h sound rooms c) cs
 
   pub rooms-fresh : Rooms (fresh s)
   rooms-fresh = record {
@@ -237,5 +236,5 @@ module _ {S : Type 0} where
       each n (Some q) e = omega (arith, fewer-own n (λ r. eqb (r .commit) 0) (h .log), roomy-few (own n (h .log)) (q .at) (rooms .actives n q e))
       each n None e = omega (arith, ap length (own-none n (kept-by (λ r. eqb (r .commit) 0) (h .log)) (λ r i f. let (j, c) = kept-in (λ r. eqb (r .commit) 0) (h .log) r i in let (q, at) = active r j (eqb-true (r .commit) 0 c) in none-some (sym e ∙ ap (λ k. find k (h .processes)) (sym f) ∙ at))))
 
-pub has-room : {S : Type 0} (M : Meaning S) → Laws M → (s : S) (es : List Event) → All Genuine (all-singles es) → length (hall-after M s es .log) ≤ 1024
-has-room M laws s es read = subst (λ h. length (h .log) ≤ 1024) (sym (all-is M laws (fresh s) es)) (few (ends M (fresh s) (all-singles es)) (λ r i. sound-ends M laws s (fresh s) (sound-fresh M s) (all-singles es) .owners r i .active) (rooms-ends M laws s (fresh s) (sound-fresh M s) (rooms-fresh M laws s) (all-singles es) read))
+pub has-room : {S : Type 0} (M : Meaning S) → Laws M → (s : S) (es : List Event) → length (hall-after M s es .log) ≤ 1024
+has-room M laws s es = subst (λ h. length (h .log) ≤ 1024) (sym (all-is M laws (fresh s) es)) (few (ends M (fresh s) (all-singles es)) (λ r i. sound-ends M laws s (fresh s) (sound-fresh M s) (all-singles es) .owners r i .active) (rooms-ends M laws s (fresh s) (sound-fresh M s) (rooms-fresh M laws s) (all-singles es)))

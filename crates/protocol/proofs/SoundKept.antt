@@ -119,8 +119,8 @@ module _ {S : Type 0} (M : Meaning S) (laws : Laws M) (s : S) where
   sound-outcome h sound = cases M h (λ c o. Sound M s (o .hall)) record {
     refused = λ c r. sound;
     waited = λ p is told n. sound-marked M s h sound told;
-    installs = λ k t b e. sound-loaded M s h sound k b (load-fits M h k b e);
-    loads = λ k b e. sound-loaded M s h sound k b (load-fits M h k b e);
+    installs = λ k t b w e. sound-loaded M s h sound k b (load-fits M h k b e);
+    loads = λ k b w e. sound-loaded M s h sound k b (load-fits M h k b e);
     opens = λ k e. sound-opened M s h sound k;
     cancels = λ p is e. sound-changed M s h sound (p .start) p is (stand (Withdrawing End)) (λ q. refl) record { pivot = sym (ap past-pivot e); row = λ r. r; placed = failed-placed M Running (p .at) (at-standing h sound p is e) (running-rowless h sound p is (p .at) (at-standing h sound p is e)) };
     steps = λ p is g a to n free o e. sound-plain h sound p is a to (fits h sound p is (plain a to) g n) free o e;

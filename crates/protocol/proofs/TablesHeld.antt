@@ -28,7 +28,7 @@ use Rattle.protocol.specs.Log.{Split, owned, own, rejoined, removed, returnabl
 use Rattle.protocol.specs.Hall.{Process, Hall, fresh, find, without, changed, stand, move, with-processes, past-pivot, running, beginning}
 use Rattle.protocol.specs.Rules.{marked, performed, failed, standing-after, record-of}
 use Rattle.protocol.specs.Calls.{Call, outcome}
-use Rattle.protocol.specs.Room.{Genuine, Bounded}
+use Rattle.protocol.specs.Room.{Bounded}
 use Rattle.protocol.specs.Held.{Held, Rooms, Roomy}
 use Rattle.protocol.proofs.CallCases.{cases, Here}
 use Rattle.protocol.proofs.Members.{In, in-push, in-more, in-map, any-none}
@@ -203,8 +203,8 @@ module _ {S : Type 0} where
   owned-outcome M h b o = cases M h (λ c x. Owned (x .hall)) record {
     refused = λ c r. o;
     waited = λ p is told n. owned-marked h o told;
-    installs = λ k t p e. record { low = o .low; active = o .active; unpivoted = o .unpivoted };
-    loads = λ k p e. record { low = o .low; active = o .active; unpivoted = o .unpivoted };
+    installs = λ k t p w e. record { low = o .low; active = o .active; unpivoted = o .unpivoted };
+    loads = λ k p w e. record { low = o .low; active = o .active; unpivoted = o .unpivoted };
     opens = λ k e. owned-opened h o k;
     cancels = λ p is e. owned-changed h o p is (stand (Withdrawing End)) (λ q. refl) (λ _. ap past-pivot e);
     steps = λ p is g a to n free d e. owned-done h o (b .starts) p is false a to d;
@@ -219,13 +219,13 @@ module _ {S : Type 0} where
   owned-of : (h : Hall S) → Held h → Owned h
   owned-of h d = record { low = d .low; active = d .active; unpivoted = d .unpivoted }
 
-  pub held-outcome : (M : Meaning S) (h : Hall S) → Held h → (c : Call) → Genuine c → Held (outcome M h c .hall)
-  held-outcome M h d c read =
+  pub held-outcome : (M : Meaning S) (h : Hall S) → Held h → (c : Call) → Held (outcome M h c .hall)
+  held-outcome M h d c =
       let o = owned-of h d in
       let p = owned-outcome M h (d .bounded) o c in
       record {
         bounded = bounded-outcome M h (d .bounded) c;
-        rooms = rooms-by M h (λ r i (f : r .start ≡ suc (h .given)). omega (arith, d .low r i)) (λ p is e none. none-left h o p is (ap past-pivot e) none) (d .rooms) c read;
+        rooms = rooms-by M h (λ r i (f : r .start ≡ suc (h .given)). omega (arith, d .low r i)) (λ p is e none. none-left h o p is (ap past-pivot e) none) (d .rooms) c;
         low = p .low;
         active = p .active;
         unpivoted = p .unpivoted;

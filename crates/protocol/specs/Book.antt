@@ -94,8 +94,8 @@ on-open b k (Stepped t) = b
 on-open b k (Refused r) = b
 
 abbrev pub noted : Book → Call → Answer → Book
-noted b (loading k p) a = on-load b k p a
-noted b (installing k t p o) a = on-load b k p a
+noted b (loading k p w) a = on-load b k p a
+noted b (installing k t p o w) a = on-load b k p a
 noted b (opening k) a = on-open b k a
 noted b (stepping n) a = on-step b (seek n (b .entries)) a
 noted b (cancelling n) a = b

@@ -26,7 +26,8 @@ use Rattle.protocol.specs.declared.answer.Layer.the-variants as layers
 use Rattle.protocol.specs.declared.answer.Refusal.{Refusal}
 use Rattle.protocol.specs.declared.answer.Refusal.the-variants.{BadText, NoPlace, Busy, NoActivity, WrongKind, NotLoaded, Full, NoNumber, NoRoom, NoProcess, IsPastPivot, IsWithdrawing, LongList, UnknownKind}
 use Rattle.station.specs.Meaning.{Meaning}
-use Rattle.program.specs.Grammar.{Body, body-steps}
+use Rattle.program.specs.Grammar.{Body, body-steps, Yields}
+use Rattle.program.specs.Outcome.{Outcome-by}
 use Rattle.program.specs.declared.command.Kind.{Kind}
 use Rattle.program.specs.declared.command.Kind.the-variants.{Compensatable, Pivot, Retriable}
 use Rattle.program.specs.declared.command.Step.{Step}
@@ -34,10 +35,15 @@ use Rattle.protocol.specs.Log.{any}
 use Rattle.protocol.specs.Hall.{Process, Hall, find, changed, stand, with-processes, beginning}
 use Rattle.protocol.specs.Rules.{Outcome, answered, step-of}
 
--- A call on a hall. A program is spoken of by its tree. Installing names the text, and what reading it comes to: the tree, and the refusal if there is one.
+-- a program is the tree of a text that was read
+abbrev pub IsProgram : Body → Type 0
+IsProgram b = (t : List ℕ) × Yields t b
+
+-- A call on a hall. A program is spoken of by its tree, with the text that it is read from. Installing names the text and what reading it
+-- comes to: the tree, and the refusal if there is one; of another tree or refusal there is no such call.
 pub data Call : Type 0 where
-  loading : ℕ → Body → Call
-  installing : ℕ → List ℕ → Body → Option text.Refusal → Call
+  loading : ℕ → (b : Body) → IsProgram b → Call
+  installing : ℕ → (t : List ℕ) (b : Body) (o : Option text.Refusal) → Outcome-by t b o → Call
   opening : ℕ → Call
   stepping : ℕ → Call
   cancelling : ℕ → Call
@@ -102,9 +108,9 @@ module _ {S : Type 0} where
   cancel-of h (Some p) = cancel-by h p (p .standing)
 
   abbrev pub outcome : Meaning S → Hall S → Call → Outcome S
-  outcome M h (loading k b) = refused-or h (against-load M h k b) (loaded h k b)
-  outcome M h (installing k t b None) = refused-or h (against-load M h k b) (loaded h k b)
-  outcome M h (installing k t b (Some e)) = answered h (Refused (BadText e))
+  outcome M h (loading k b w) = refused-or h (against-load M h k b) (loaded h k b)
+  outcome M h (installing k t b None w) = refused-or h (against-load M h k b) (loaded h k b)
+  outcome M h (installing k t b (Some e) w) = answered h (Refused (BadText e))
   outcome M h (opening k) = refused-or h (against-open h k) (opened h k)
   outcome M h (stepping n) = step-of M h (find n (h .processes))
   outcome M h (cancelling n) = cancel-of h (find n (h .processes))

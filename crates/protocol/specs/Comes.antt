@@ -14,7 +14,8 @@ use Rattle.program.specs.declared.command.Kind.{Kind}
 use Rattle.program.specs.declared.command.Kind.the-variants.{Compensatable, Pivot, Retriable}
 use Rattle.program.specs.declared.command.Step.{Step}
 use Rattle.program.specs.declared.refusal.Refusal as text
-use Rattle.program.specs.Grammar.{Body, body-steps}
+use Rattle.program.specs.Grammar.{Body, body-steps, Yields}
+use Rattle.program.specs.Outcome.{Outcome-by}
 use Rattle.protocol.specs.declared.answer.Answer.{Answer}
 use Rattle.protocol.specs.declared.answer.Answer.the-variants.{Loaded, Opened, Cancelled, Stepped, Refused}
 use Rattle.protocol.specs.declared.answer.Refusal.{Refusal}
@@ -28,7 +29,7 @@ use Rattle.protocol.specs.declared.standing.Standing.the-variants.{Running, Wi
 use Rattle.protocol.specs.Hall.{Process, Hall, find, changed, stand, with-processes}
 use Rattle.protocol.specs.Rules.{answered}
 use Rattle.protocol.specs.Relation.{In, Steps}
-use Rattle.protocol.specs.Calls.{Call, loading, installing, opening, stepping, cancelling, committed-records, with-program, with-process, outcome, call-of, written, Scan, scan-outcome}
+use Rattle.protocol.specs.Calls.{Call, IsProgram, loading, installing, opening, stepping, cancelling, committed-records, with-program, with-process, outcome, call-of, written, Scan, scan-outcome}
 
 module _ {S : Type 0} (M : Meaning S) where
   -- the activity is of the kind that a step of a program has to be of
@@ -63,13 +64,13 @@ module _ {S : Type 0} (M : Meaning S) where
   -- from the hall h the call comes to a hall and an answer
   pub data Comes (h : Hall S) : Call → Hall S → Answer → Type 0 where
     -- loading
-    load-nowhere : {k : ℕ} {b : Body} → 7 < k → Comes h (loading k b) h (Refused NoPlace)
-    load-busy : {k : ℕ} {b : Body} (q : Process) → k ≤ 7 → In q (h .processes) → q .place ≡ k → Comes h (loading k b) h (Refused Busy)
-    load-unfit : {k : ℕ} {b : Body} {r : Refusal} → k ≤ 7 → Unused h k → Unfit 0 (body-steps b) r → Comes h (loading k b) h (Refused r)
-    loads : {k : ℕ} {b : Body} → k ≤ 7 → Unused h k → All Fits (body-steps b) → Comes h (loading k b) (with-program h k b) Loaded
+    load-nowhere : {k : ℕ} {b : Body} {w : IsProgram b} → 7 < k → Comes h (loading k b w) h (Refused NoPlace)
+    load-busy : {k : ℕ} {b : Body} {w : IsProgram b} (q : Process) → k ≤ 7 → In q (h .processes) → q .place ≡ k → Comes h (loading k b w) h (Refused Busy)
+    load-unfit : {k : ℕ} {b : Body} {w : IsProgram b} {r : Refusal} → k ≤ 7 → Unused h k → Unfit 0 (body-steps b) r → Comes h (loading k b w) h (Refused r)
+    loads : {k : ℕ} {b : Body} {w : IsProgram b} → k ≤ 7 → Unused h k → All Fits (body-steps b) → Comes h (loading k b w) (with-program h k b) Loaded
     -- installing: reading and loading in one
-    install-no-program : {k : ℕ} {t : List ℕ} {b : Body} {e : text.Refusal} → Comes h (installing k t b (Some e)) h (Refused (BadText e))
-    installs : {k : ℕ} {t : List ℕ} {b : Body} {g : Hall S} {a : Answer} → Comes h (loading k b) g a → Comes h (installing k t b None) g a
+    install-no-program : {k : ℕ} {t : List ℕ} {b : Body} {e : text.Refusal} {refused : Outcome-by t b (Some e)} → Comes h (installing k t b (Some e) refused) h (Refused (BadText e))
+    installs : {k : ℕ} {t : List ℕ} {b : Body} {read : Yields t b} {g : Hall S} {a : Answer} → Comes h (loading k b (t, read)) g a → Comes h (installing k t b None read) g a
     -- opening
     open-nowhere : {k : ℕ} → 7 < k → Comes h (opening k) h (Refused NoPlace)
     open-not-loaded : {k : ℕ} → k ≤ 7 → (Is-loaded h k → ⊥) → Comes h (opening k) h (Refused NotLoaded)
