@@ -18,8 +18,8 @@ use Rattle.protocol.specs.declared.standing.Standing.the-variants.{Running, Wi
 use Rattle.station.specs.Meaning.{Meaning}
 use Rattle.protocol.specs.Log.{any, owned, own, Split, from-pivot}
 use Rattle.protocol.specs.Hall.{Process, Hall, least, lower, stand, past-pivot, going-back, retreating, running, with-processes}
-use Rattle.protocol.specs.Rules.{holds-conflict, holds-any-conflict, stands-before-conflict, other, younger, blocks-back, blocks-plain, blocks-pivot, blocks-alone, blocks-commit, everybody, nobody, pivot-marks, marked}
-use Rattle.protocol.specs.Relation.{In, Before, Each, Retreats, Past, Runs, InConflict, BlocksBack, BlocksPlain, BlocksPivot, BlocksCommit, Nobody, Smallest, Marks, Marked}
+use Rattle.protocol.specs.StepFunction.{holds-conflict, holds-any-conflict, stands-before-conflict, other, younger, blocks-back, blocks-plain, blocks-pivot, blocks-alone, blocks-commit, everybody, nobody, pivot-marks, marked}
+use Rattle.protocol.specs.Relation.{In, Before, Each, Retreats, Past, IsRunning, InConflict, BlocksBack, BlocksPlain, BlocksPivot, BlocksCommit, Nobody, Smallest, Marks, Marked}
 use Rattle.protocol.proofs.Members.{some-any}
 use Rattle.protocol.proofs.Processes.{none-some, some-same}
 
@@ -68,14 +68,14 @@ same-as x f g = record { holds = λ e. f (x .holds e); passes = λ y. x .passes 
 
 retreats : (st : Standing) → Tells (retreating st) (Retreats st)
 retreats Running = record { holds = λ e. absurd (false≢true e); passes = λ e. absurd e }
-retreats (Withdrawing restart) = record { holds = λ e. tt; passes = λ e. refl }
+retreats (Withdrawing aim) = record { holds = λ e. tt; passes = λ e. refl }
 retreats (PastPivot Forward) = record { holds = λ e. absurd (false≢true e); passes = λ e. ap going-back e }
 retreats (PastPivot Back) = record { holds = λ e. refl; passes = λ e. refl }
 
 pub runs : (st : Standing) → Tells (running st) (st ≡ Running)
 runs Running = record { holds = λ e. refl; passes = λ e. refl }
-runs (Withdrawing restart) = record { holds = λ e. absurd (false≢true e); passes = λ e. ap running e }
-runs (PastPivot back) = record { holds = λ e. absurd (false≢true e); passes = λ e. ap running e }
+runs (Withdrawing aim) = record { holds = λ e. absurd (false≢true e); passes = λ e. ap running e }
+runs (PastPivot way) = record { holds = λ e. absurd (false≢true e); passes = λ e. ap running e }
 
 module _ {S : Type 0} (M : Meaning S) where
   conflicts : (log : List Record) (q : Process) (a : ℕ) → Tells (holds-conflict (M .conflict) (q .start) a log) (InConflict M log q a)

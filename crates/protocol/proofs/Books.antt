@@ -25,9 +25,10 @@ use Rattle.protocol.specs.Means.{Laws}
 use Rattle.program.specs.Positions.{Position, into, alternative-of}
 use Rattle.protocol.specs.Ahead.{Next, nothing, plain, crossing, next}
 use Rattle.protocol.specs.Log.{Split, owned, removed, dropped, last-of, returnable, unless-pivot, committed-under, pivoted}
-use Rattle.protocol.specs.Hall.{Process, Hall, fresh, find, without, change, changed, stand, move, with-processes, least, beginning, running, past-pivot}
-use Rattle.protocol.specs.Rules.{marked, Outcome, answered, performed, restarted, gone, next-alternative, undone, committing, failed, standing-after}
-use Rattle.protocol.specs.Calls.{Call, loading, installing, opening, stepping, cancelling, outcome, ends, replies}
+use Rattle.protocol.specs.Hall.{Process, Hall, fresh, find, without, change, changed, stand, move, with-processes, least, beginning, running, past-pivot, Outcome, answered, failed, standing-after}
+use Rattle.protocol.specs.StepFunction.{marked, performed, restarted, gone, next-alternative, undone, committing}
+use Rattle.protocol.specs.Call.{Call, loading, installing, opening, stepping, cancelling}
+use Rattle.protocol.specs.CallFunction.{outcome, ends, replies}
 use Rattle.protocol.proofs.CallCases.{cases}
 use Rattle.protocol.specs.Book.{Entry, Book, empty, seek, struck, at-now, moved, with-entries, keep, keep-next, on-turn, on-step, noted}
 use Rattle.protocol.proofs.Members.{In}

@@ -13,7 +13,7 @@ use Rattle.std.specs.shelf.Lists.{All, kept-by}
 use Rattle.std.proofs.shelf.Elements.{all-weaker}
 use Rattle.std.proofs.shelf.Tests.{leb-false}
 use Rattle.serial.specs.Sorts.{Pairwise}
-use Rattle.protocol.specs.Options.{when}
+use Rattle.protocol.specs.Options.{when, else}
 use Rattle.activity.specs.declared.Activity.{Activity}
 use Rattle.protocol.specs.declared.answer.Refusal.{Refusal}
 use Rattle.protocol.specs.declared.answer.Refusal.the-variants.{NoPlace, NotLoaded, Full, NoNumber, NoRoom}
@@ -23,9 +23,11 @@ use Rattle.protocol.specs.declared.standing.Standing.the-variants.{Running, Wi
 use Rattle.station.specs.Meaning.{Meaning}
 use Rattle.protocol.specs.Means.{Laws}
 use Rattle.program.specs.Positions.{Position, into, alternative-of}
-use Rattle.protocol.specs.Hall.{Process, Hall, fresh, find, without, change, changed, stand, move, with-processes, running, beginning}
-use Rattle.protocol.specs.Rules.{marked, performed, failed, standing-after}
-use Rattle.protocol.specs.Calls.{Call, else, against-open, outcome, ends, committed-records, Event, all-singles}
+use Rattle.protocol.specs.Hall.{Process, Hall, fresh, find, without, change, changed, stand, move, with-processes, running, beginning, failed, standing-after}
+use Rattle.protocol.specs.StepFunction.{marked, performed}
+use Rattle.protocol.specs.Call.{Call, Event}
+use Rattle.protocol.specs.CallFunction.{against-open, outcome, ends, all-singles}
+use Rattle.protocol.specs.Log.{committed-records}
 use Rattle.protocol.proofs.Computed.{hall-after}
 use Rattle.protocol.specs.Room.{Bounded, StaysBounded}
 use Rattle.protocol.proofs.Processes.{change-keeps, none-some}
@@ -116,7 +118,7 @@ module _ {S : Type 0} where
       keeps told q true = refl
       keeps told q false = refl
 
-      opens : (k : ℕ) → against-open h k ≡ None → Bounded (Rattle.protocol.specs.Calls.opened h k .hall)
+      opens : (k : ℕ) → against-open h k ≡ None → Bounded (Rattle.protocol.specs.CallFunction.opened h k .hall)
       opens k e =
           let room = when (ltb 1024 (length (committed-records (h .log)) + 32 * (length (h .processes) + 1))) NoRoom in
           let numbers = when (leb 65535 (h .given)) NoNumber in

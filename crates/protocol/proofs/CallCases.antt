@@ -21,9 +21,10 @@ use Rattle.program.specs.Grammar.{Body, Yields}
 use Rattle.program.specs.Positions.{Position}
 use Rattle.protocol.specs.Ahead.{Next, nothing, plain, crossing, next}
 use Rattle.protocol.specs.Log.{Split, returnable}
-use Rattle.protocol.specs.Hall.{Process, Hall, find, least, with-processes, changed, stand}
-use Rattle.protocol.specs.Rules.{blocks-back, blocks-plain, blocks-pivot, blocks-alone, blocks-commit, everybody, nobody, pivot-marks, marked, Outcome, answered, waits, unless-blocked, performed, restarted, gone, next-alternative, undone, committing, backward, forward, by-standing, step-of}
-use Rattle.protocol.specs.Calls.{Call, IsProgram, loading, installing, opening, stepping, cancelling, refused-or, against-load, against-open, loaded, opened, cancel-by, cancel-of, outcome}
+use Rattle.protocol.specs.Hall.{Process, Hall, find, least, with-processes, changed, stand, Outcome, answered}
+use Rattle.protocol.specs.StepFunction.{blocks-back, blocks-plain, blocks-pivot, blocks-alone, blocks-commit, everybody, nobody, pivot-marks, marked, waits, unless-blocked, performed, restarted, gone, next-alternative, undone, committing, backward, forward, by-standing, step-of}
+use Rattle.protocol.specs.Call.{Call, IsProgram, loading, installing, opening, stepping, cancelling}
+use Rattle.protocol.specs.CallFunction.{refused-or, against-load, against-open, loaded, opened, cancel-by, cancel-of, outcome}
 use Rattle.protocol.proofs.Processes.{found-start, nobody-passes}
 
 module _ {S : Type 0} (M : Meaning S) (h : Hall S) where
@@ -88,8 +89,8 @@ module _ {S : Type 0} (M : Meaning S) (h : Hall S) where
 
       cancelled-by : (st : Standing) → p .standing ≡ st → P (cancelling (p .start)) (cancel-by h p st)
       cancelled-by Running e = all .cancels p is e
-      cancelled-by (Withdrawing restart) e = all .refused (cancelling (p .start)) IsWithdrawing
-      cancelled-by (PastPivot back) e = all .refused (cancelling (p .start)) IsPastPivot
+      cancelled-by (Withdrawing aim) e = all .refused (cancelling (p .start)) IsWithdrawing
+      cancelled-by (PastPivot way) e = all .refused (cancelling (p .start)) IsPastPivot
 
     pub cases : (c : Call) → P c (outcome M h c)
     cases (loading k b w) = go (against-load M h k b) refl

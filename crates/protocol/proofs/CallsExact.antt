@@ -24,13 +24,16 @@ use Rattle.protocol.specs.declared.answer.Refusal.the-variants.{BadText, NoPla
 use Rattle.protocol.specs.declared.scan.Request.{Request}
 use Rattle.protocol.specs.declared.standing.Standing.{Standing}
 use Rattle.protocol.specs.declared.standing.Standing.the-variants.{Running, Withdrawing, PastPivot}
-use Rattle.protocol.specs.Options.{when}
-use Rattle.protocol.specs.Log.{any}
-use Rattle.protocol.specs.Hall.{Process, Hall, find}
-use Rattle.protocol.specs.Rules.{Outcome, answered, step-of}
+use Rattle.protocol.specs.Options.{when, else}
+use Rattle.protocol.specs.Log.{any, committed-records}
+use Rattle.protocol.specs.Hall.{Process, Hall, find, Outcome, answered}
+use Rattle.protocol.specs.StepFunction.{step-of}
 use Rattle.protocol.specs.Relation.{In}
-use Rattle.protocol.specs.Calls.{Call, IsProgram, loading, installing, opening, stepping, cancelling, else, fits, fault, faults, committed-records, refused-or, against-load, loaded, against-open, opened, cancel-by, cancel-of, outcome, call-of, written, Scan, one, scanned, scan-outcome}
-use Rattle.protocol.specs.Comes.{Of-kind, Fits, Unfit, no-such-activity, of-another-kind, further-on, Unused, Is-loaded, demand, Comes, load-nowhere, load-busy, load-unfit, loads, install-no-program, installs, open-nowhere, open-not-loaded, open-full, open-no-number, open-no-room, opens, step-nobody, steps, cancel-nobody, cancel-past-pivot, cancel-withdrawing, cancels, Calls-exactly, Works-one, known, unknown, Works, none-left, one-by-one, Scans, too-long, worked, Exactly-one-scan, Scans-exactly}
+use Rattle.protocol.specs.Call.{Call, IsProgram, loading, installing, opening, stepping, cancelling}
+use Rattle.protocol.specs.CallFunction.{fits, fault, faults, refused-or, against-load, loaded, against-open, opened, cancel-by, cancel-of, outcome, Scan, one, scanned, scan-outcome}
+use Rattle.protocol.specs.Letters.{call-of, written}
+use Rattle.protocol.specs.Comes.{OfKind, Fits, Unfit, no-such-activity, of-another-kind, further-on, Unused, IsLoaded, records-at-most, Comes, load-nowhere, load-busy, load-unfit, loads, install-no-program, installs, open-nowhere, open-not-loaded, open-full, open-no-number, open-no-room, opens, step-nobody, steps, cancel-nobody, cancel-past-pivot, cancel-withdrawing, cancels, WorksOne, known, unknown, Works, none-left, one-by-one, Scans, too-long, worked}
+use Rattle.protocol.specs.Exact.{CallsExactly, ExactlyOneScan, ScansExactly}
 use Rattle.protocol.proofs.Members.{some-any, any-none}
 use Rattle.protocol.proofs.StepsExact.{exact}
 
@@ -54,12 +57,12 @@ no-some {X} {x} e = false≢true (sym (ap isSome e))
 
 module _ {S : Type 0} (M : Meaning S) where
   -- ---- which steps fit
-  kind-fits : (k : Kind) (a : ℕ) → fits M k a ≡ true → Of-kind M k a
+  kind-fits : (k : Kind) (a : ℕ) → fits M k a ≡ true → OfKind M k a
   kind-fits Compensatable a e = e
   kind-fits Pivot a e = not-true (M .compensatable a) e
   kind-fits Retriable a e = e
 
-  fits-kind : (k : Kind) (a : ℕ) → Of-kind M k a → fits M k a ≡ true
+  fits-kind : (k : Kind) (a : ℕ) → OfKind M k a → fits M k a ≡ true
   fits-kind Compensatable a e = e
   fits-kind Pivot a e = not-from-false (M .compensatable a) e
   fits-kind Retriable a e = e
@@ -145,19 +148,19 @@ module _ {S : Type 0} (M : Meaning S) where
       is-loaded None e = absurd (false≢true e)
       is-loaded (Some b) e = (b, refl)
 
-      loaded-some : Is-loaded M h k → isSome at-place ≡ true
+      loaded-some : IsLoaded M h k → isSome at-place ≡ true
       loaded-some (b, e) = ap isSome e
 
-      not-loaded : (Is-loaded M h k → ⊥) → isSome at-place ≡ false
+      not-loaded : (IsLoaded M h k → ⊥) → isSome at-place ≡ false
       not-loaded f = not-true-false (isSome at-place) (λ e. f (is-loaded at-place e))
 
-      open-allowed : (far there full last over : Bool) → ltb 7 k ≡ far → isSome at-place ≡ there → leb 16 (length (h .processes)) ≡ full → leb 65535 (h .given) ≡ last → ltb 1024 (demand M h) ≡ over → Allowed (opening k) (open-by far there full last over)
+      open-allowed : (far there full last over : Bool) → ltb 7 k ≡ far → isSome at-place ≡ there → leb 16 (length (h .processes)) ≡ full → leb 65535 (h .given) ≡ last → ltb 1024 (records-at-most M h) ≡ over → Allowed (opening k) (open-by far there full last over)
       open-allowed true there full last over e f g n r = open-nowhere (ltb-true 7 k e)
       open-allowed false false full last over e f g n r = open-not-loaded (ltb-false 7 k e) (λ l. both-ways (isSome at-place) f (loaded-some l))
       open-allowed false true true last over e f g n r = open-full (ltb-false 7 k e) (is-loaded at-place f) (leb-true 16 (length (h .processes)) g)
       open-allowed false true false true over e f g n r = open-no-number (ltb-false 7 k e) (is-loaded at-place f) (leb-false 16 (length (h .processes)) g) (leb-true 65535 (h .given) n)
-      open-allowed false true false false true e f g n r = open-no-room (ltb-false 7 k e) (is-loaded at-place f) (leb-false 16 (length (h .processes)) g) (leb-false 65535 (h .given) n) (ltb-true 1024 (demand M h) r)
-      open-allowed false true false false false e f g n r = opens (ltb-false 7 k e) (is-loaded at-place f) (leb-false 16 (length (h .processes)) g) (leb-false 65535 (h .given) n) (ltb-false 1024 (demand M h) r)
+      open-allowed false true false false true e f g n r = open-no-room (ltb-false 7 k e) (is-loaded at-place f) (leb-false 16 (length (h .processes)) g) (leb-false 65535 (h .given) n) (ltb-true 1024 (records-at-most M h) r)
+      open-allowed false true false false false e f g n r = opens (ltb-false 7 k e) (is-loaded at-place f) (leb-false 16 (length (h .processes)) g) (leb-false 65535 (h .given) n) (ltb-false 1024 (records-at-most M h) r)
 
       abbrev full-now : Bool
       full-now = leb 16 (length (h .processes))
@@ -166,15 +169,15 @@ module _ {S : Type 0} (M : Meaning S) where
       last-now = leb 65535 (h .given)
 
       abbrev over-now : Bool
-      over-now = ltb 1024 (demand M h)
+      over-now = ltb 1024 (records-at-most M h)
 
       open-only : (g : Hall S) (a : Answer) → Comes M h (opening k) g a → answered g a ≡ open-by (ltb 7 k) (isSome at-place) full-now last-now over-now
       open-only g a (open-nowhere far) = λ j. open-by (sym (lt-ltb 7 k far) j) (isSome at-place) full-now last-now over-now
       open-only g a (open-not-loaded near l) = λ j. open-by (sym (le-ltb 7 k near) j) (sym (not-loaded l) j) full-now last-now over-now
       open-only g a (open-full near l f) = λ j. open-by (sym (le-ltb 7 k near) j) (sym (loaded-some l) j) (sym (le-leb 16 (length (h .processes)) f) j) last-now over-now
       open-only g a (open-no-number near l f n) = λ j. open-by (sym (le-ltb 7 k near) j) (sym (loaded-some l) j) (sym (lt-leb 16 (length (h .processes)) f) j) (sym (le-leb 65535 (h .given) n) j) over-now
-      open-only g a (open-no-room near l f n r) = λ j. open-by (sym (le-ltb 7 k near) j) (sym (loaded-some l) j) (sym (lt-leb 16 (length (h .processes)) f) j) (sym (lt-leb 65535 (h .given) n) j) (sym (lt-ltb 1024 (demand M h) r) j)
-      open-only g a (opens near l f n r) = λ j. open-by (sym (le-ltb 7 k near) j) (sym (loaded-some l) j) (sym (lt-leb 16 (length (h .processes)) f) j) (sym (lt-leb 65535 (h .given) n) j) (sym (le-ltb 1024 (demand M h) r) j)
+      open-only g a (open-no-room near l f n r) = λ j. open-by (sym (le-ltb 7 k near) j) (sym (loaded-some l) j) (sym (lt-leb 16 (length (h .processes)) f) j) (sym (lt-leb 65535 (h .given) n) j) (sym (lt-ltb 1024 (records-at-most M h) r) j)
+      open-only g a (opens near l f n r) = λ j. open-by (sym (le-ltb 7 k near) j) (sym (loaded-some l) j) (sym (lt-leb 16 (length (h .processes)) f) j) (sym (lt-leb 65535 (h .given) n) j) (sym (le-ltb 1024 (records-at-most M h) r) j)
 
     -- ---- stepping and cancelling
     module _ (n : ℕ) where
@@ -217,11 +220,11 @@ module _ {S : Type 0} (M : Meaning S) where
     only (stepping n) g a x = step-only n g a x
     only (cancelling n) g a x = cancel-only n g a x
 
-  pub calls-exactly : Calls-exactly M
+  pub calls-exactly : CallsExactly M
   calls-exactly h c = record { allowed = allowed h c; only = only h c }
 
   -- ---- scan lists
-  works-one : (h : Hall S) (r : Request) (o : Option Call) → call-of r ≡ o → Works-one M h r (one M h o .hall) (written r (one M h o .answer))
+  works-one : (h : Hall S) (r : Request) (o : Option Call) → call-of r ≡ o → WorksOne M h r (one M h o .hall) (written r (one M h o .answer))
   works-one h r None e = unknown e
   works-one h r (Some c) e = known e (allowed h c)
 
@@ -233,7 +236,7 @@ module _ {S : Type 0} (M : Meaning S) where
   served h [] = refl
   served h (r ∷ rs) = served (one M h (call-of r) .hall) rs
 
-  one-only : (h : Hall S) (r : Request) (g : Hall S) (w : Request) → Works-one M h r g w → (g ≡ one M h (call-of r) .hall) × (w ≡ written r (one M h (call-of r) .answer))
+  one-only : (h : Hall S) (r : Request) (g : Hall S) (w : Request) → WorksOne M h r g w → (g ≡ one M h (call-of r) .hall) × (w ≡ written r (one M h (call-of r) .answer))
   one-only h r g w (known {c = c} {a = a} e x) =
       let same = only h c g a x ∙ ap (one M h) (sym e) in
       (ap (λ o. o .hall) same, ap (λ o. written r (o .answer)) same)
@@ -261,5 +264,5 @@ module _ {S : Type 0} (M : Meaning S) where
   scan-only h rs false e g ws o (too-long above) = absurd (omega (arith, ltb-false 64 (length rs) e))
   scan-only h rs false e g ws o (worked below x) = let (hall, records) = works-only h rs g ws x in (hall, records, sym (served h rs))
 
-  pub scans-exactly : Scans-exactly M
+  pub scans-exactly : ScansExactly M
   scans-exactly h rs = record { allowed = scan-allowed h rs (ltb 64 (length rs)) refl; only = scan-only h rs (ltb 64 (length rs)) refl }

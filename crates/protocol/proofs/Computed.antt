@@ -5,7 +5,8 @@ use lib.Dec.{ltb}
 use lib.ListN.{length}
 use Rattle.station.specs.Meaning.{Meaning}
 use Rattle.protocol.specs.Hall.{Hall, fresh}
-use Rattle.protocol.specs.Calls.{Event, call, scan, outcome, scan-outcome, after, after-all}
+use Rattle.protocol.specs.Call.{Event, call, scan}
+use Rattle.protocol.specs.CallFunction.{outcome, scan-outcome, after, after-all}
 use Rattle.protocol.specs.Book.{Book, empty, Told, called, scan-served, scan-refused, book-of}
 
 module _ {S : Type 0} where

@@ -16,9 +16,8 @@ use Rattle.protocol.specs.declared.record.Record.{Record}
 use Rattle.program.specs.Grammar.{Body, finish, compensatable, pivot, Choices, row, orElse, body-steps, choices-steps, row-steps}
 use Rattle.program.specs.Positions.{Rest, in-body, in-row, Position, outer, inner, alternative}
 use Rattle.protocol.specs.Ahead.{Next, nothing, plain, crossing, next}
-use Rattle.protocol.specs.Log.{any, Split, owned, own, rejoined, removed, last-of, unless-pivot, returnable, to-pivot, from-pivot, committed-under}
+use Rattle.protocol.specs.Log.{any, Split, owned, own, rejoined, removed, last-of, unless-pivot, returnable, to-pivot, from-pivot, committed-under, committed-records}
 use Rattle.protocol.specs.Hall.{Process, find, without}
-use Rattle.protocol.specs.Calls.{committed-records}
 use Rattle.protocol.specs.Statements.{without-commit-number}
 pub use Rattle.protocol.specs.Held.{size, choice-size, rest-size, Roomy}
 use Rattle.protocol.proofs.Members.{In}

@@ -14,7 +14,8 @@ use Rattle.protocol.specs.declared.answer.Refusal.the-variants.{LongList}
 use Rattle.protocol.specs.declared.scan.Request.{Request}
 use Rattle.protocol.specs.Means.{Laws}
 use Rattle.protocol.specs.Hall.{Hall, fresh}
-use Rattle.protocol.specs.Calls.{Call, Event, call, scan, outcome, scanned, scan-outcome, after, after-all}
+use Rattle.protocol.specs.Call.{Call, Event, call, scan}
+use Rattle.protocol.specs.CallFunction.{outcome, scanned, scan-outcome, after, after-all}
 use Rattle.protocol.specs.Book.{Told, called, scan-served, scan-refused}
 use Rattle.protocol.specs.Comes.{Comes, Scans}
 use Rattle.protocol.specs.Statements.{Runs, no-more, by-call, by-scan, scan-told, OneRun, RunsExactly, Agree, Agrees, Fixed, Stays}

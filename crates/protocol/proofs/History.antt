@@ -17,11 +17,13 @@ use Rattle.protocol.specs.declared.answer.Turn.the-variants as turns
 use Rattle.protocol.specs.declared.scan.Request.{Request}
 use Rattle.protocol.specs.declared.standing.Standing.{Standing}
 use Rattle.protocol.specs.declared.standing.Standing.the-variants.{Running, Withdrawing, PastPivot}
-use Rattle.protocol.specs.Options.{when}
+use Rattle.protocol.specs.Options.{when, else}
 use Rattle.protocol.specs.Means.{Laws}
-use Rattle.protocol.specs.Hall.{Process, Hall, find}
-use Rattle.protocol.specs.Rules.{Outcome, answered, step-of}
-use Rattle.protocol.specs.Calls.{Call, loading, installing, opening, stepping, cancelling, else, refused-or, against-open, opened, cancel-by, cancel-of, outcome, call-of, written, one, scanned, Event, call, scan, after, after-all}
+use Rattle.protocol.specs.Hall.{Process, Hall, find, Outcome, answered}
+use Rattle.protocol.specs.StepFunction.{step-of}
+use Rattle.protocol.specs.Call.{Call, loading, installing, opening, stepping, cancelling, Event, call, scan}
+use Rattle.protocol.specs.CallFunction.{refused-or, against-open, opened, cancel-by, cancel-of, outcome, one, scanned, after, after-all}
+use Rattle.protocol.specs.Letters.{call-of, written}
 use Rattle.protocol.specs.Book.{Entry, Book, seek, on-step, noted, answer-told, noted-if, noted-record, noted-records, scan-served, scan-refused, heard, book-of}
 use Rattle.protocol.proofs.Computed.{tells, history}
 use Rattle.protocol.proofs.Sound.{Sound}

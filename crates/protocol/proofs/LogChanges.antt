@@ -21,8 +21,8 @@ use Rattle.station.specs.Meaning.{Meaning}
 use Rattle.protocol.specs.Means.{actions, Laws, Does, conflicting}
 use Rattle.program.specs.Positions.{Position}
 use Rattle.protocol.specs.Log.{any, owned, own, Split, rejoined, removed, pivoted, group, number, prior, committed-under, from-pivot}
-use Rattle.protocol.specs.Hall.{Process, Hall, find, without, change, changed, stand, move, past-pivot}
-use Rattle.protocol.specs.Rules.{holds-conflict, holds-any-conflict, stands-before-conflict, record-of, standing-after, performed, undone, committing}
+use Rattle.protocol.specs.Hall.{Process, Hall, find, without, change, changed, stand, move, past-pivot, record-of, standing-after}
+use Rattle.protocol.specs.StepFunction.{holds-conflict, holds-any-conflict, stands-before-conflict, performed, undone, committing}
 use Rattle.protocol.proofs.Members.{In, Before, all-from, before-first, before-second, in-push, before-push, in-more, before-more, before-here, in-here, in-map, before-map, any-none, none-any, any-push, any-more, any-map, in-kept, any-kept}
 use Rattle.protocol.proofs.Processes.{found-start, from-changed, to-changed, find-without, from-without, without-none, some-same, none-some}
 use Rattle.protocol.proofs.Ranks.{Rank, committed, pivoting, waiting, rank, Later, later, not-prior}

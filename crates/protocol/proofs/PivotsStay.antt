@@ -20,8 +20,9 @@ use Rattle.program.specs.Positions.{Position}
 use Rattle.protocol.specs.Ahead.{Next, nothing, plain, crossing, next}
 use Rattle.protocol.specs.Log.{any, Split, owned, own, rejoined, removed, returnable, to-pivot, committed-under}
 use Rattle.protocol.specs.Hall.{Process, Hall, find, least}
-use Rattle.protocol.specs.Rules.{performed}
-use Rattle.protocol.specs.Calls.{Call, outcome, ends}
+use Rattle.protocol.specs.StepFunction.{performed}
+use Rattle.protocol.specs.Call.{Call}
+use Rattle.protocol.specs.CallFunction.{outcome, ends}
 use Rattle.protocol.proofs.CallCases.{cases}
 use Rattle.protocol.specs.Statements.{without-commit-number, Begins}
 use Rattle.protocol.proofs.Members.{In}

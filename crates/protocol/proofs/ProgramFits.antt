@@ -7,7 +7,7 @@ use Rattle.std.specs.declared.option.Option.{Option}
 use Rattle.std.specs.declared.option.Option.the-variants.{Some, None}
 use Rattle.std.specs.shelf.Lists.{All}
 use Rattle.std.proofs.shelf.Tests.{true≢false, false≢true, not-false, not-true, leb-false}
-use Rattle.protocol.specs.Options.{when}
+use Rattle.protocol.specs.Options.{when, else}
 use Rattle.activity.specs.declared.Activity.{Activity}
 use Rattle.protocol.specs.declared.answer.Refusal.{Refusal}
 use Rattle.protocol.specs.declared.standing.Aim.{Aim}
@@ -20,12 +20,11 @@ use Rattle.program.specs.Positions.{Rest, in-body, in-row, Position, outer, inn
 use Rattle.protocol.specs.Ahead.{Next, nothing, plain, crossing, next}
 use Rattle.program.specs.declared.command.Step.{Step}
 use Rattle.program.specs.declared.command.Kind.the-variants.{Compensatable, Pivot, Retriable}
-use Rattle.protocol.specs.Rules.{failed}
-use Rattle.protocol.specs.Hall.{Hall}
+use Rattle.protocol.specs.Hall.{failed, Hall}
 use Rattle.protocol.specs.Log.{any}
 use lib.Dec.{eqb, ltb}
 use Rattle.protocol.specs.declared.answer.Refusal.the-variants.{NoPlace, Busy}
-use Rattle.protocol.specs.Calls.{else, fits, fault, faults, against-load}
+use Rattle.protocol.specs.CallFunction.{fits, fault, faults, against-load}
 use Rattle.protocol.proofs.Processes.{none-some}
 use Rattle.protocol.proofs.Sound.{FitsRow, FitsBody, FitsChoices, FitsRest, rowless, Placed}
 
@@ -68,12 +67,12 @@ module _ {S : Type 0} (M : Meaning S) where
   pub failed-placed : (st : Standing) (at : Position) → Placed M st at → rowless at ≡ true → Placed M (failed st) at
   failed-placed Running (outer b) f e = tt
   failed-placed Running (inner c k r) f e = f
-  failed-placed (Withdrawing restart) (outer b) f e = tt
-  failed-placed (Withdrawing restart) (inner c k r) f e = f
-  failed-placed (PastPivot back) (outer b) f e = f
+  failed-placed (Withdrawing aim) (outer b) f e = tt
+  failed-placed (Withdrawing aim) (inner c k r) f e = f
+  failed-placed (PastPivot way) (outer b) f e = f
   failed-placed (PastPivot Forward) (inner c k (in-body b)) f e = f .0
   failed-placed (PastPivot Back) (inner c k (in-body b)) f e = f
-  failed-placed (PastPivot back) (inner c k (in-row ss)) f e = absurd (false≢true e)
+  failed-placed (PastPivot way) (inner c k (in-row ss)) f e = absurd (false≢true e)
 
   -- into the next alternative
   pub into-placed : (at : Position) (k : ℕ) → Placed M (PastPivot Back) at → Placed M (PastPivot Forward) (into k at)
@@ -86,9 +85,9 @@ module _ {S : Type 0} (M : Meaning S) where
   back-rowless (inner c k (in-body b)) f = refl
   back-rowless (inner c k (in-row ss)) f = elim f [ ]
 
-  pub withdrawing-rowless : (restart : Aim) (at : Position) → Placed M (Withdrawing restart) at → rowless at ≡ true
-  withdrawing-rowless restart (outer b) f = refl
-  withdrawing-rowless restart (inner c k r) f = elim f [ ]
+  pub withdrawing-rowless : (aim : Aim) (at : Position) → Placed M (Withdrawing aim) at → rowless at ≡ true
+  withdrawing-rowless aim (outer b) f = refl
+  withdrawing-rowless aim (inner c k r) f = elim f [ ]
 
   -- a program without faults fits
   else-none : {X : Type 0} (a b : Option X) → else a b ≡ None → (a ≡ None) × (b ≡ None)

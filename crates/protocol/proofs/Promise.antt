@@ -22,7 +22,9 @@ use Rattle.protocol.specs.declared.answer.Refusal.the-variants.{LongList}
 use Rattle.protocol.specs.Means.{actions, Laws, Does, conflicting}
 use Rattle.protocol.specs.Log.{owned, own, to-pivot, orderly, prior, pivoted, group, number}
 use Rattle.protocol.specs.Hall.{Hall, fresh}
-use Rattle.protocol.specs.Calls.{Call, Event, call, scan, singles, all-singles, ends, replies, outcome, one, scanned, call-of, calls-of, and-call, after, after-all}
+use Rattle.protocol.specs.Call.{Call, Event, call, scan}
+use Rattle.protocol.specs.CallFunction.{singles, all-singles, ends, replies, outcome, one, scanned, calls-of, and-call, after, after-all}
+use Rattle.protocol.specs.Letters.{call-of}
 use Rattle.protocol.specs.declared.scan.Request.{Request}
 use Rattle.protocol.proofs.Ranks.{Later, later}
 use Rattle.program.specs.Places.{nth}

@@ -13,7 +13,7 @@ use Rattle.std.specs.Options.{isSome}
 use Rattle.std.specs.shelf.Lists.{All, kept-by}
 use Rattle.std.proofs.shelf.Elements.{all-set}
 use Rattle.std.proofs.shelf.Tests.{eqb-true, eqb-false, eq-eqb, ne-eqb, ltb-false, both-ways, cases-eq}
-use Rattle.protocol.specs.Options.{when}
+use Rattle.protocol.specs.Options.{when, else}
 use Rattle.activity.specs.declared.Activity.{Activity}
 use Rattle.protocol.specs.declared.record.Record.{Record}
 use Rattle.protocol.specs.declared.answer.Refusal.{Refusal}
@@ -27,10 +27,11 @@ use Rattle.protocol.specs.Means.{Laws}
 use Rattle.program.specs.Grammar.{Body, Choices, row, orElse, body-steps}
 use Rattle.program.specs.Positions.{Rest, in-body, in-row, Position, outer, inner, alternative, reached, into, alternative-of}
 use Rattle.protocol.specs.Ahead.{Next, nothing, plain, crossing, next}
-use Rattle.protocol.specs.Log.{Split, owned, own, removed, returnable, pivoted, to-pivot, from-pivot, committed-under}
-use Rattle.protocol.specs.Hall.{Process, Hall, fresh, find, without, change, changed, stand, move, with-processes, past-pivot, running, body-of, beginning, least}
-use Rattle.protocol.specs.Rules.{marked, performed, undone, committing, failed, standing-after, record-of}
-use Rattle.protocol.specs.Calls.{Call, else, against-open, loaded, opened, outcome, ends, committed-records, Event, all-singles}
+use Rattle.protocol.specs.Log.{Split, owned, own, removed, returnable, pivoted, to-pivot, from-pivot, committed-under, committed-records}
+use Rattle.protocol.specs.Hall.{Process, Hall, fresh, find, without, change, changed, stand, move, with-processes, past-pivot, running, body-of, beginning, least, failed, standing-after, record-of}
+use Rattle.protocol.specs.StepFunction.{marked, performed, undone, committing}
+use Rattle.protocol.specs.Call.{Call, Event}
+use Rattle.protocol.specs.CallFunction.{against-open, loaded, opened, outcome, ends, all-singles}
 use Rattle.protocol.proofs.CallCases.{cases}
 use Rattle.protocol.specs.Statements.{without-commit-number}
 use Rattle.protocol.proofs.Computed.{hall-after}

@@ -51,9 +51,9 @@ rowless (inner c k (in-row ss)) = false
 abbrev pub Placed : {S : Type 0} → Meaning S → Standing → Position → Type 0
 Placed M Running (outer b) = FitsBody M b
 Placed M Running (inner c k r) = ⊥
-Placed M (Withdrawing restart) (outer b) = Unit {0}
-Placed M (Withdrawing restart) (inner c k r) = ⊥
-Placed M (PastPivot back) (outer b) = ⊥
+Placed M (Withdrawing aim) (outer b) = Unit {0}
+Placed M (Withdrawing aim) (inner c k r) = ⊥
+Placed M (PastPivot way) (outer b) = ⊥
 Placed M (PastPivot Forward) (inner c k r) = FitsChoices M c × FitsRest M r
 Placed M (PastPivot Back) (inner c k (in-body b)) = FitsChoices M c
 Placed M (PastPivot Back) (inner c k (in-row ss)) = ⊥

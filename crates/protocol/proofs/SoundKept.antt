@@ -21,9 +21,10 @@ use Rattle.protocol.specs.Means.{Laws}
 use Rattle.program.specs.Positions.{Position, outer, inner, into, alternative-of}
 use Rattle.protocol.specs.Ahead.{Next, nothing, plain, crossing, next}
 use Rattle.protocol.specs.Log.{Split, returnable, own, from-pivot, pivoted}
-use Rattle.protocol.specs.Hall.{Process, Hall, find, past-pivot, retreating, stand, move, beginning}
-use Rattle.protocol.specs.Rules.{holds-conflict, holds-any-conflict, stands-before-conflict, other, younger, blocks-back, blocks-plain, blocks-pivot, blocks-alone, blocks-commit, performed, failed}
-use Rattle.protocol.specs.Calls.{Call, outcome, ends}
+use Rattle.protocol.specs.Hall.{Process, Hall, find, past-pivot, retreating, stand, move, beginning, failed}
+use Rattle.protocol.specs.StepFunction.{holds-conflict, holds-any-conflict, stands-before-conflict, other, younger, blocks-back, blocks-plain, blocks-pivot, blocks-alone, blocks-commit, performed}
+use Rattle.protocol.specs.Call.{Call}
+use Rattle.protocol.specs.CallFunction.{outcome, ends}
 use Rattle.protocol.proofs.Processes.{found-start}
 use Rattle.protocol.proofs.LastRecords.{loose-is, LooseIs, NotOf}
 use Rattle.protocol.proofs.CallCases.{Going, Backing, Passes, Leaves, cases}
@@ -53,8 +54,8 @@ module _ {S : Type 0} (M : Meaning S) (laws : Laws M) (s : S) where
       where
         go : (st : Standing) → p .standing ≡ st → past-pivot (failed (p .standing)) ≡ past-pivot (p .standing)
         go Running e = ap (λ x. past-pivot (failed x)) e ∙ sym (ap past-pivot e)
-        go (Withdrawing restart) e = ap (λ x. past-pivot (failed x)) e ∙ sym (ap past-pivot e)
-        go (PastPivot back) e = ap (λ x. past-pivot (failed x)) e ∙ sym (ap past-pivot e)
+        go (Withdrawing aim) e = ap (λ x. past-pivot (failed x)) e ∙ sym (ap past-pivot e)
+        go (PastPivot way) e = ap (λ x. past-pivot (failed x)) e ∙ sym (ap past-pivot e)
 
     apart : (n : ℕ) (q : Process) → find n (h .processes) ≡ Some q → (n ≡ p .start → ⊥) → q .start ≡ p .start → ⊥
     apart n q at off e = off (sym (found-start n (h .processes) q at) ∙ e)
@@ -97,10 +98,10 @@ module _ {S : Type 0} (M : Meaning S) (laws : Laws M) (s : S) where
     fits x (inr e) n = subst (NextFits M (p .standing) (p .at)) n (subst (λ st. NextFits M st (p .at) (next (p .at))) (sym e) (past-fits M (p .at) (at-standing e)))
 
     back-free : Backing M h p → rowless (p .at) ≡ true
-    back-free (inl (restart, e)) = withdrawing-rowless M restart (p .at) (at-standing e)
+    back-free (inl (aim, e)) = withdrawing-rowless M aim (p .at) (at-standing e)
     back-free (inr e) = back-rowless M (p .at) (at-standing e)
 
-    pub none-left : {restart : Aim} → p .standing ≡ Withdrawing restart → returnable (p .start) (h .log) ≡ None → NotOf (p .start) (h .log)
+    pub none-left : {aim : Aim} → p .standing ≡ Withdrawing aim → returnable (p .start) (h .log) ≡ None → NotOf (p .start) (h .log)
     none-left e none = ⊎-elim (λ x. x) (λ piv. absurd (both-ways (pivoted (h .log) (p .start)) (sound .actives (p .start) p is .pivot ∙ ap past-pivot e) piv)) (subst (LooseIs (p .start) (h .log)) none (loose-is (p .start) (h .log)))
 
     sound-plain : (a : Activity) (to : Position) → Plain M (p .standing) (p .at) a to → Passes M h (blocks-plain (M .conflict) (h .log) p a) → (o : Option (ℕ × S)) → M .performed (h .station) a ≡ o → Sound M s (performed h p false a to o .hall)

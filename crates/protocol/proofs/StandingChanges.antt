@@ -21,9 +21,9 @@ use Rattle.protocol.specs.Means.{Does, conflicting}
 use Rattle.program.specs.Grammar.{Body, finish, Choices, row, orElse}
 use Rattle.program.specs.Positions.{Rest, in-body, in-row, Position, outer, inner, alternative, into, alternative-of}
 use Rattle.protocol.specs.Log.{pivoted, prior, any, owned}
-use Rattle.protocol.specs.Hall.{Process, Hall, fresh, find, without, change, changed, stand, move, with-processes, past-pivot, running, body-of, beginning}
-use Rattle.protocol.specs.Rules.{marked, restarted, gone, next-alternative, failed}
-use Rattle.protocol.specs.Calls.{loaded, opened}
+use Rattle.protocol.specs.Hall.{Process, Hall, fresh, find, without, change, changed, stand, move, with-processes, past-pivot, running, body-of, beginning, failed}
+use Rattle.protocol.specs.StepFunction.{marked, restarted, gone, next-alternative}
+use Rattle.protocol.specs.CallFunction.{loaded, opened}
 use Rattle.protocol.proofs.Members.{In, Before, any-none, none-any}
 use Rattle.protocol.proofs.Processes.{found-start, find-map, from-map, to-map, change-keeps, from-changed, find-without, from-without, from-push, to-push, some-same, none-some}
 use Rattle.protocol.proofs.LastRecords.{NotOf}
@@ -106,8 +106,8 @@ module _ {S : Type 0} (M : Meaning S) (s : S) where
       go : (st : Standing) → q .standing ≡ st → (at : Position) → q .at ≡ at → Placed M (q .standing) (q .at) → Alike M q (cond (running st) (stand (Withdrawing Restart) q) q)
       go Running e (outer b) f at = record { pivot = sym (ap past-pivot e); row = λ x. x; placed = subst (Placed M (Withdrawing Restart)) (sym f) tt }
       go Running e (inner c k r) f at = absurd (subst (λ st. Placed M st (inner c k r)) e (subst (Placed M (q .standing)) f at))
-      go (Withdrawing restart) e a f at = record { pivot = refl; row = λ x. x; placed = at }
-      go (PastPivot back) e a f at = record { pivot = refl; row = λ x. x; placed = at }
+      go (Withdrawing aim) e a f at = record { pivot = refl; row = λ x. x; placed = at }
+      go (PastPivot way) e a f at = record { pivot = refl; row = λ x. x; placed = at }
 
   marked-keeps : (told : Process → Bool) (q : Process) → marked told q .start ≡ q .start
   marked-keeps told q = go (told q && running (q .standing))

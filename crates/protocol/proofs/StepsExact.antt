@@ -20,9 +20,10 @@ use Rattle.station.specs.Meaning.{Meaning}
 use Rattle.program.specs.Positions.{Position, alternative-of, into}
 use Rattle.protocol.specs.Ahead.{Next, nothing, plain, crossing, next}
 use Rattle.protocol.specs.Log.{Split, owned, rejoined, removed, or-here, last-of, unless-pivot, returnable, pivoted}
-use Rattle.protocol.specs.Hall.{Process, Hall, least, past-pivot, with-processes, going-back}
-use Rattle.protocol.specs.Rules.{blocks-back, blocks-plain, blocks-pivot, blocks-alone, blocks-commit, everybody, nobody, pivot-marks, marked, Outcome, answered, waits, unless-blocked, performed, restarted, gone, next-alternative, undone, committing, backward, forward, by-standing, standing-after, failed}
-use Rattle.protocol.specs.Relation.{In, Retreats, Advances, Past, ToTakeBack, NoneToTakeBack, BlocksBack, BlocksPlain, BlocksPivot, BlocksCommit, Nobody, Smallest, Marked, Free, free-plain, free-pivot, Steps, waits-back, takes-back, restarts, leaves, takes-next-alternative, waits-plain, waits-alone, waits-pivot, performs, fails, waits-commit, commits, Exact}
+use Rattle.protocol.specs.Hall.{Process, Hall, least, past-pivot, with-processes, going-back, Outcome, answered, standing-after, failed}
+use Rattle.protocol.specs.StepFunction.{blocks-back, blocks-plain, blocks-pivot, blocks-alone, blocks-commit, everybody, nobody, pivot-marks, marked, waits, unless-blocked, performed, restarted, gone, next-alternative, undone, committing, backward, forward, by-standing}
+use Rattle.protocol.specs.Relation.{In, Retreats, Advances, Past, ToTakeBack, NoneToTakeBack, BlocksBack, BlocksPlain, BlocksPivot, BlocksCommit, Nobody, Smallest, Marked, Free, free-plain, free-pivot, Steps, waits-back, takes-back, restarts, leaves, takes-next-alternative, waits-plain, waits-alone, waits-pivot, performs, fails, waits-commit, commits}
+use Rattle.protocol.specs.Exact.{Exact}
 use Rattle.protocol.proofs.Members.{in-here}
 use Rattle.protocol.proofs.LastRecords.{NotOf, Last, Loose, LooseIs, loose-is}
 use Rattle.protocol.proofs.Blocking.{OfOthers, back-tells, plain-tells, pivot-tells, pivot-marks-tell, everybody-tells, alone-tells, commit-tells, nobody-from, smallest-from, nobody-to, smallest-to, marked-from, marked-to, unmarked}
@@ -94,12 +95,12 @@ module _ {S : Type 0} (M : Meaning S) (h : Hall S) (p : Process) where
     where
       go : (ps : List Process) → least (blocks-alone p) ps ≡ None
       go [] = refl
-      go (q ∷ qs) = ap (λ b. Rattle.protocol.specs.Hall.lower b (q .start) (least (blocks-alone p) qs)) (Rattle.std.proofs.shelf.Tests.and-right (Rattle.protocol.specs.Rules.other p q) (not (past-pivot (p .standing)) && past-pivot (q .standing)) (ap (λ b. not b && past-pivot (q .standing)) past)) ∙ go qs
+      go (q ∷ qs) = ap (λ b. Rattle.protocol.specs.Hall.lower b (q .start) (least (blocks-alone p) qs)) (Rattle.std.proofs.shelf.Tests.and-right (Rattle.protocol.specs.StepFunction.other p q) (not (past-pivot (p .standing)) && past-pivot (q .standing)) (ap (λ b. not b && past-pivot (q .standing)) past)) ∙ go qs
 
   runs-when : (st : Standing) → Advances st → past-pivot st ≡ false → st ≡ Running
   runs-when Running a e = refl
-  runs-when (Withdrawing restart) a e = absurd a
-  runs-when (PastPivot back) a e = absurd (true≢false e)
+  runs-when (Withdrawing aim) a e = absurd a
+  runs-when (PastPivot way) a e = absurd (true≢false e)
 
   came-crossing : Advances (p .standing) → (a : Activity) (to : Position) → next (p .at) ≡ crossing a to → Came (forward M h p (crossing a to))
   came-crossing adv a to e = ⊎-elim past run (cases-bool (past-pivot (p .standing)))
@@ -154,7 +155,7 @@ module _ {S : Type 0} (M : Meaning S) (h : Hall S) (p : Process) where
 
   advancing : (st : Standing) → Advances st → by-standing M h p st ≡ forward M h p (next (p .at))
   advancing Running a = refl
-  advancing (Withdrawing restart) a = absurd a
+  advancing (Withdrawing aim) a = absurd a
   advancing (PastPivot Forward) a = refl
   advancing (PastPivot Back) a = absurd (true≢false (ap going-back a))
 

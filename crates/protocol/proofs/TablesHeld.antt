@@ -25,9 +25,10 @@ use Rattle.program.specs.Grammar.{Body}
 use Rattle.program.specs.Positions.{Position, alternative-of, into}
 use Rattle.protocol.specs.Ahead.{next, plain, crossing}
 use Rattle.protocol.specs.Log.{Split, owned, own, rejoined, removed, returnable, pivoted, committed-under}
-use Rattle.protocol.specs.Hall.{Process, Hall, fresh, find, without, changed, stand, move, with-processes, past-pivot, running, beginning}
-use Rattle.protocol.specs.Rules.{marked, performed, failed, standing-after, record-of}
-use Rattle.protocol.specs.Calls.{Call, outcome}
+use Rattle.protocol.specs.Hall.{Process, Hall, fresh, find, without, changed, stand, move, with-processes, past-pivot, running, beginning, failed, standing-after, record-of}
+use Rattle.protocol.specs.StepFunction.{marked, performed}
+use Rattle.protocol.specs.Call.{Call}
+use Rattle.protocol.specs.CallFunction.{outcome}
 use Rattle.protocol.specs.Room.{Bounded}
 use Rattle.protocol.specs.Held.{Held, Rooms, Roomy}
 use Rattle.protocol.proofs.CallCases.{cases, Here}
@@ -131,7 +132,7 @@ module _ {S : Type 0} where
     unpivoted = λ m q e. o .unpivoted m q (from-without n m (h .processes) q e .1);
   }
 
-  owned-opened : (h : Hall S) → Owned h → (k : ℕ) → Owned (Rattle.protocol.specs.Calls.opened h k .hall)
+  owned-opened : (h : Hall S) → Owned h → (k : ℕ) → Owned (Rattle.protocol.specs.CallFunction.opened h k .hall)
   owned-opened h o k = record {
     low = λ r i. omega (arith, o .low r i);
     active = λ r i z. let (q, e) = o .active r i z in (q, to-push (r .start) (h .processes) record { start = suc (h .given); place = k; standing = Running; at = beginning (h .programs) k } q e);
@@ -164,7 +165,7 @@ module _ {S : Type 0} where
             (from-changed (p .start) p f (λ q. refl) (h .processes) is n q e);
       }
 
-  owned-committed : (h : Hall S) → Owned h → (p : Process) → Owned (Rattle.protocol.specs.Rules.committing h p .hall)
+  owned-committed : (h : Hall S) → Owned h → (p : Process) → Owned (Rattle.protocol.specs.StepFunction.committing h p .hall)
   owned-committed h o p =
       let c = suc (h .committed) in
       record {
@@ -179,7 +180,7 @@ module _ {S : Type 0} where
             ap (λ y. y .pivot) is ∙ sealed-pivot (p .start) c x ∙ o .unpivoted n q (from-without (p .start) n (h .processes) q e .1) past x at (sym (ap (λ y. y .start) is ∙ sealed-start (p .start) c x) ∙ mine);
       }
 
-  owned-undone : (M : Meaning S) (h : Hall S) → Owned h → (n : ℕ) (z : Split) → Last n (h .log) z → Owned (Rattle.protocol.specs.Rules.undone M h z .hall)
+  owned-undone : (M : Meaning S) (h : Hall S) → Owned h → (n : ℕ) (z : Split) → Last n (h .log) z → Owned (Rattle.protocol.specs.StepFunction.undone M h z .hall)
   owned-undone M h o n z l =
       let back : (r : Record) → In r (removed z) → In r (h .log) = λ r i. subst (In r) (sym (l .whole)) (in-more r (z .before) (z .at) (z .after) i) in
       record {

@@ -5,7 +5,7 @@ use Rattle.program.specs.declared.command.Kind.the-variants.{Compensatable, Piv
 use Rattle.program.specs.Positions.{Position}
 use Rattle.program.specs.Positions as positions
 
--- a step is next, and leads to a position
+-- nothing is next, or a step that leads to a position
 pub data Next : Type 0 where
   nothing : Next
   plain : Activity → Position → Next

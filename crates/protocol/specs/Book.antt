@@ -19,8 +19,9 @@ use Rattle.protocol.specs.Ahead.{Next, nothing, plain, crossing, next}
 use Rattle.protocol.specs.Log.{owned, dropped, last-of, committed-under}
 use Rattle.protocol.specs.Hall.{Process, Hall, beginning}
 use Rattle.protocol.specs.declared.scan.Request.{Request}
-use Rattle.protocol.specs.Options.{when}
-use Rattle.protocol.specs.Calls.{Call, loading, installing, opening, stepping, cancelling, else, call-of}
+use Rattle.protocol.specs.Options.{when, else}
+use Rattle.protocol.specs.Call.{Call, loading, installing, opening, stepping, cancelling}
+use Rattle.protocol.specs.Letters.{call-of}
 
 -- a process that the book has entered, and where it is in its program
 pub record Entry : Type 0 where

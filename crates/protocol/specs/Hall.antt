@@ -1,13 +1,16 @@
 -- What a hall holds: the station, the log, the active processes, the programs by place, the last start number given and the last commit number.
 use mathlib.Core.Bool.{Bool, true, false, not, cond}
 use mathlib.Core.List.{List, [], _∷_, _++_, map}
-use Prim.Native.Nat.{ℕ, min}
+use Prim.Native.Nat.{ℕ, suc, min}
 use lib.Dec.{eqb}
-use lib.ListN.{replicate, getD}
+use lib.ListN.{replicate, getD, set}
 use Rattle.std.specs.declared.option.Option.{Option}
 use Rattle.std.specs.declared.option.Option.the-variants.{Some, None}
 use Rattle.std.specs.shelf.Lists.{kept-by}
+use Rattle.activity.specs.declared.Activity.{Activity}
 use Rattle.protocol.specs.declared.record.Record.{Record}
+use Rattle.protocol.specs.declared.answer.Answer.{Answer}
+use Rattle.protocol.specs.declared.standing.Aim.the-variants.{End}
 use Rattle.protocol.specs.declared.standing.Direction.{Direction}
 use Rattle.protocol.specs.declared.standing.Direction.the-variants.{Forward, Back}
 use Rattle.protocol.specs.declared.standing.Standing.{Standing}
@@ -67,13 +70,13 @@ beginning programs k = outer (body-of (getD programs k None))
 
 abbrev pub running : Standing → Bool
 running Running = true
-running (Withdrawing restart) = false
-running (PastPivot back) = false
+running (Withdrawing aim) = false
+running (PastPivot way) = false
 
 abbrev pub past-pivot : Standing → Bool
 past-pivot Running = false
-past-pivot (Withdrawing restart) = false
-past-pivot (PastPivot back) = true
+past-pivot (Withdrawing aim) = false
+past-pivot (PastPivot way) = true
 
 abbrev pub going-back : Direction → Bool
 going-back Forward = false
@@ -82,7 +85,7 @@ going-back Back = true
 -- withdrawing or going back
 abbrev pub retreating : Standing → Bool
 retreating Running = false
-retreating (Withdrawing restart) = true
+retreating (Withdrawing aim) = true
 retreating (PastPivot d) = going-back d
 
 abbrev pub lower : Bool → ℕ → Option ℕ → Option ℕ
@@ -94,3 +97,35 @@ lower true n (Some m) = Some (min n m)
 abbrev pub least : (Process → Bool) → List Process → Option ℕ
 least p [] = None
 least p (q ∷ qs) = lower (p q) (q .start) (least p qs)
+
+-- the standing after a step that was not possible
+abbrev pub failed : Standing → Standing
+failed Running = Withdrawing End
+failed (Withdrawing aim) = Withdrawing End
+failed (PastPivot way) = PastPivot Back
+
+-- where a step leads: past the pivot by a pivot
+abbrev pub standing-after : Bool → Standing → Standing
+standing-after true s = PastPivot Forward
+standing-after false s = s
+
+-- the record of a step that the process has performed
+abbrev pub record-of : Process → Bool → Activity → ℕ → Record
+record-of p pivot s x = record { start = p .start; activity = s; answer = x; commit = 0; pivot = pivot }
+
+-- what a call comes to: a hall and an answer
+pub record Outcome (S : Type 0) : Type 0 where
+  pub hall : Hall S
+  pub answer : Answer
+
+module _ {S : Type 0} where
+  abbrev pub answered : Hall S → Answer → Outcome S
+  answered h a = record { hall = h; answer = a }
+
+  -- the hall with a program at the place
+  abbrev pub with-program : Hall S → ℕ → Body → Hall S
+  with-program h k b = record { station = h .station; log = h .log; processes = h .processes; programs = set (h .programs) k (Some b); given = h .given; committed = h .committed }
+
+  -- the hall with one process more, which runs from the beginning of the program at the place, under the next start number
+  abbrev pub with-process : Hall S → ℕ → Hall S
+  with-process h k = record { station = h .station; log = h .log; processes = h .processes ++ record { start = suc (h .given); place = k; standing = Running; at = beginning (h .programs) k } ∷ []; programs = h .programs; given = suc (h .given); committed = h .committed }

@@ -9,9 +9,8 @@ use Rattle.std.specs.shelf.Lists.{All}
 use Rattle.protocol.specs.declared.record.Record.{Record}
 use Rattle.program.specs.Grammar.{Body, Choices, body-steps, choices-steps}
 use Rattle.program.specs.Positions.{Rest, in-body, in-row, Position, outer, inner, alternative}
-use Rattle.protocol.specs.Log.{own, to-pivot, from-pivot}
+use Rattle.protocol.specs.Log.{own, to-pivot, from-pivot, committed-records}
 use Rattle.protocol.specs.Hall.{Process, Hall, find, past-pivot, body-of}
-use Rattle.protocol.specs.Calls.{committed-records}
 use Rattle.protocol.specs.Relation.{In}
 use Rattle.protocol.specs.Room.{Bounded}
 

@@ -87,3 +87,7 @@ prior piv a b = ltb (group piv a) (group piv b) || (eqb (group piv a) (group piv
 -- the kept steps, committed processes' by commit number, then those of processes with a kept pivot, then the rest, both by start number; each process's in the order kept
 abbrev pub orderly : List Record → List Record
 orderly kept = sort (prior (pivoted kept)) kept
+
+-- the records of committed processes
+abbrev pub committed-records : List Record → List Record
+committed-records log = kept-by (λ r. not (eqb (r .commit) 0)) log

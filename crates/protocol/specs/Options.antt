@@ -7,3 +7,8 @@ use Rattle.std.specs.declared.option.Option.the-variants.{Some, None}
 abbrev pub when : {X : Type 0} → Bool → X → Option X
 when true x = Some x
 when false x = None
+
+-- the first objection
+abbrev pub else : {X : Type 0} → Option X → Option X → Option X
+else None o = o
+else (Some x) o = Some x

@@ -18,8 +18,8 @@ use Rattle.station.specs.Meaning.{Meaning}
 use Rattle.program.specs.Positions.{Position, alternative-of, into}
 use Rattle.protocol.specs.Ahead.{Next, nothing, plain, crossing, next}
 use Rattle.protocol.specs.Log.{Split, rejoined, removed, own, from-pivot, committed-under}
-use Rattle.protocol.specs.Hall.{Process, Hall, without, changed, stand, move, with-processes, beginning, past-pivot}
-use Rattle.protocol.specs.Rules.{record-of, standing-after, failed, by-standing, answered}
+use Rattle.protocol.specs.Hall.{Process, Hall, without, changed, stand, move, with-processes, beginning, past-pivot, record-of, standing-after, failed, answered}
+use Rattle.protocol.specs.StepFunction.{by-standing}
 use Rattle.protocol.specs.declared.answer.Answer.the-variants.{Stepped}
 
 -- x stands in the list
@@ -32,7 +32,7 @@ abbrev pub Before : {X : Type 0} → X → X → List X → Type 0
 Before a b [] = ⊥
 Before a b (x ∷ xs) = ((a ≡ x) × In b xs) ⊎ Before a b xs
 
--- a list with a part of it for each element
+-- two lists of one length, related element by element
 abbrev pub Each : (Process → Process → Type 0) → List Process → List Process → Type 0
 Each R [] [] = Unit {0}
 Each R [] (y ∷ ys) = ⊥
@@ -42,20 +42,20 @@ Each R (x ∷ xs) (y ∷ ys) = R x y × Each R xs ys
 -- withdrawing or going back
 abbrev pub Retreats : Standing → Type 0
 Retreats Running = ⊥
-Retreats (Withdrawing restart) = Unit {0}
+Retreats (Withdrawing aim) = Unit {0}
 Retreats (PastPivot d) = d ≡ Back
 
 -- running, or forward past the pivot
 abbrev pub Advances : Standing → Type 0
 Advances Running = Unit {0}
-Advances (Withdrawing restart) = ⊥
+Advances (Withdrawing aim) = ⊥
 Advances (PastPivot d) = d ≡ Forward
 
 abbrev pub Past : Process → Type 0
 Past q = past-pivot (q .standing) ≡ true
 
-abbrev pub Runs : Process → Type 0
-Runs q = q .standing ≡ Running
+abbrev pub IsRunning : Process → Type 0
+IsRunning q = q .standing ≡ Running
 
 -- the process's last record, if that is no pivot: the one to take back
 pub record ToTakeBack (n : ℕ) (log : List Record) (z : Split) : Type 0 where
@@ -70,8 +70,8 @@ NoneToTakeBack n log = (z : Split) → ToTakeBack n log z → ⊥
 -- the running ones of the others that block, and that are to be marked, are set to withdraw to restart
 abbrev pub Marks : Process → (Process → Type 0) → Process → Process → Type 0
 Marks p B q r =
-    ((q .start ≡ p .start → ⊥) × B q × Runs q × (r ≡ stand (Withdrawing Restart) q))
-    ⊎ (((q .start ≡ p .start → ⊥) → B q → Runs q → ⊥) × (r ≡ q))
+    ((q .start ≡ p .start → ⊥) × B q × IsRunning q × (r ≡ stand (Withdrawing Restart) q))
+    ⊎ (((q .start ≡ p .start → ⊥) → B q → IsRunning q → ⊥) × (r ≡ q))
 
 module _ {S : Type 0} where
   -- q has a record among these that conflicts with the activity
@@ -126,7 +126,7 @@ module _ {S : Type 0} where
     -- a step that is no pivot is next
     waits-plain : {a : Activity} {to : Position} {n : ℕ} {ps : List Process} → Advances (p .standing) → next (p .at) ≡ plain a to → Smallest h p (BlocksPlain M h p a) n → Marked h p (BlocksPlain M h p a) ps → Steps M h p (with-processes h ps) (turns.Wait n)
     -- a pivot is next
-    waits-alone : {a : Activity} {to : Position} {n : ℕ} → Runs p → next (p .at) ≡ crossing a to → Smallest h p Past n → Steps M h p h (turns.Wait n)
+    waits-alone : {a : Activity} {to : Position} {n : ℕ} → IsRunning p → next (p .at) ≡ crossing a to → Smallest h p Past n → Steps M h p h (turns.Wait n)
     waits-pivot : {a : Activity} {to : Position} {n : ℕ} {ps : List Process} → Advances (p .standing) → next (p .at) ≡ crossing a to → ((Past p → ⊥) → Nobody h p Past) → Smallest h p (BlocksPivot M h p a) n → Marked h p (λ q. BlocksPivot M h p a q × (Past p ⊎ (p .start < q .start))) ps → Steps M h p (with-processes h ps) (turns.Wait n)
     -- nobody blocks
     performs : {pivot : Bool} {a : Activity} {to : Position} {x : ℕ} {t : S} → Advances (p .standing) → Free M h p pivot a to → M .performed (h .station) a ≡ Some (x, t) → Steps M h p (kept h p pivot a to x t) (turns.Done x)
@@ -135,13 +135,3 @@ module _ {S : Type 0} where
     waits-commit : {n : ℕ} → Advances (p .standing) → next (p .at) ≡ nothing → Smallest h p (BlocksCommit M h p) n → Steps M h p h (turns.Wait n)
     commits : Advances (p .standing) → next (p .at) ≡ nothing → Nobody h p (BlocksCommit M h p)
         → Steps M h p record { station = h .station; log = map (committed-under (p .start) (suc (h .committed))) (h .log); processes = without (p .start) (h .processes); programs = h .programs; given = h .given; committed = suc (h .committed) } (turns.Committed (suc (h .committed)))
-
-  -- what the function gives is what the rules allow, and nothing else is
-  pub record Exact (M : Meaning S) (h : Hall S) (p : Process) : Type 0 where
-    pub turn : Turn
-    pub answers : by-standing M h p (p .standing) .answer ≡ Stepped turn
-    pub allowed : Steps M h p (by-standing M h p (p .standing) .hall) turn
-    pub only : (g : Hall S) (t : Turn) → Steps M h p g t → answered g (Stepped t) ≡ by-standing M h p (p .standing)
-
-  abbrev pub StepsExactly : Meaning S → Type 0
-  StepsExactly M = (h : Hall S) (p : Process) → Exact M h p

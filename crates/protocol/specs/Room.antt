@@ -6,7 +6,7 @@ use Rattle.std.specs.shelf.Lists.{All}
 use Rattle.serial.specs.Sorts.{Pairwise}
 use Rattle.station.specs.Meaning.{Meaning}
 use Rattle.protocol.specs.Hall.{Hall, fresh}
-use Rattle.protocol.specs.Calls.{Event}
+use Rattle.protocol.specs.Call.{Event}
 use Rattle.protocol.specs.Book.{Told}
 use Rattle.protocol.specs.Statements.{Runs}
 

@@ -15,7 +15,7 @@ use Rattle.station.specs.Meaning.{Meaning}
 use Rattle.protocol.specs.Means.{Does}
 use Rattle.protocol.specs.Log.{own, to-pivot, orderly, prior, pivoted}
 use Rattle.protocol.specs.Hall.{Hall, fresh}
-use Rattle.protocol.specs.Calls.{Call, Event, call, scan}
+use Rattle.protocol.specs.Call.{Call, Event, call, scan}
 use Rattle.protocol.specs.Comes.{Comes, Scans}
 use Rattle.program.specs.Places.{nth}
 use Rattle.protocol.specs.Questions.{kept-step}

@@ -1,7 +1,6 @@
 // The theorems about halls, each on a function's contract, over every station.
 ghost use Rattle.protocol.specs.Statements.{RunsExactly, Agrees, Stays};
-ghost use Rattle.protocol.specs.Comes.{Calls-exactly, Scans-exactly};
-ghost use Rattle.protocol.specs.Relation.{StepsExactly};
+ghost use Rattle.protocol.specs.Exact.{CallsExactly, ScansExactly, StepsExactly};
 ghost use Rattle.protocol.specs.Room.{HasRoom, StaysBounded};
 use station::Station;
 
@@ -15,9 +14,9 @@ pub fn runs_agree_and_pivots_stay<S: Station>()
 // Every call comes to exactly one of the things that the rules allow: a load, an installing, an opening, a step, a cancelling,
 // a scan list, and so a list of them.
 pub fn calls_have_one_outcome<S: Station>()
-    ensures calls { λ _. ⌜ Calls-exactly (S·Station .meaning) ⌝ }
+    ensures calls { λ _. ⌜ CallsExactly (S·Station .meaning) ⌝ }
     ensures steps { λ _. ⌜ StepsExactly (S·Station .meaning) ⌝ }
-    ensures scans { λ _. ⌜ Scans-exactly (S·Station .meaning) ⌝ }
+    ensures scans { λ _. ⌜ ScansExactly (S·Station .meaning) ⌝ }
     ensures lists { λ _. ⌜ RunsExactly (S·Station .meaning) ⌝ }
 {}
 

@@ -17,7 +17,8 @@ use Rattle.protocol.specs.declared.answer.Answer.{Answer}
 use Rattle.protocol.specs.declared.answer.Answer.the-variants.{Loaded, Opened, Cancelled, Stepped, Refused}
 use Rattle.protocol.specs.declared.answer.Refusal.the-variants.{IsPastPivot}
 use Rattle.protocol.specs.Hall.{fresh}
-use Rattle.protocol.specs.Calls.{Call, loading, opening, stepping, cancelling, replies}
+use Rattle.protocol.specs.Call.{Call, loading, opening, stepping, cancelling}
+use Rattle.protocol.specs.CallFunction.{replies}
 
 -- ---- the station: lanes and a register, side by side, as they are at first
 

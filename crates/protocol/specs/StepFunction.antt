@@ -19,7 +19,7 @@ use Rattle.station.specs.Meaning.{Meaning}
 use Rattle.program.specs.Positions.{Position, alternative-of, into}
 use Rattle.protocol.specs.Ahead.{Next, nothing, plain, crossing, next}
 use Rattle.protocol.specs.Log.{any, owned, own, Split, rejoined, removed, returnable, from-pivot, committed-under}
-use Rattle.protocol.specs.Hall.{Process, Hall, find, without, changed, stand, move, with-processes, beginning, running, past-pivot, retreating, least}
+use Rattle.protocol.specs.Hall.{Process, Hall, find, without, changed, stand, move, with-processes, beginning, running, past-pivot, retreating, least, failed, standing-after, record-of, Outcome, answered}
 
 -- the process n has a record that conflicts with the activity
 abbrev pub holds-conflict : (ℕ → ℕ → Bool) → ℕ → ℕ → List Record → Bool
@@ -75,29 +75,7 @@ pivot-marks p q = past-pivot (p .standing) || younger p q
 abbrev pub marked : (Process → Bool) → Process → Process
 marked told q = cond (told q && running (q .standing)) (stand (Withdrawing Restart) q) q
 
-pub record Outcome (S : Type 0) : Type 0 where
-  pub hall : Hall S
-  pub answer : Answer
-
--- the standing after a step that was not possible
-abbrev pub failed : Standing → Standing
-failed Running = Withdrawing End
-failed (Withdrawing restart) = Withdrawing End
-failed (PastPivot back) = PastPivot Back
-
-abbrev pub record-of : Process → Bool → Activity → ℕ → Record
-record-of p pivot s x = record { start = p .start; activity = s; answer = x; commit = 0; pivot = pivot }
-
--- where a step leads: past the pivot by a pivot
-abbrev pub standing-after : Bool → Standing → Standing
-standing-after true s = PastPivot Forward
-standing-after false s = s
-
 module _ {S : Type 0} where
-  -- a hall and an answer
-  abbrev pub answered : Hall S → Answer → Outcome S
-  answered h a = record { hall = h; answer = a }
-
   -- W where a smallest start number is found, with the marking; else it goes on
   abbrev pub waits : Hall S → (Process → Bool) → (Process → Bool) → Outcome S → Option ℕ → Outcome S
   waits h blocks marks on None = on

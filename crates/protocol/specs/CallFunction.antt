@@ -1,57 +1,33 @@
--- What each call comes to, as a function, with the letters and numbers of the answers. What the rules say is the relation in Comes.antt; that the two agree is proved.
+-- What each call comes to, as a function. What the rules say is the relation in Comes.antt; that the two agree is proved.
 use mathlib.Core.Bool.{Bool, true, false, not, cond, _&&_, _||_}
 use mathlib.Core.List.{List, [], _∷_, _++_, map}
 use Prim.Native.Nat.{ℕ, suc, _+_, _*_}
 use lib.Dec.{eqb, ltb, leb}
-use lib.ListN.{length, getD, set}
+use lib.ListN.{length, getD}
 use Rattle.std.specs.declared.option.Option.{Option}
 use Rattle.std.specs.declared.option.Option.the-variants.{Some, None}
 use Rattle.std.specs.Options.{isSome}
-use Rattle.std.specs.shelf.Lists.{kept-by}
-use Rattle.protocol.specs.Options.{when}
+use Rattle.protocol.specs.Options.{when, else}
 use Rattle.activity.specs.declared.Activity.{Activity}
 use Rattle.protocol.specs.declared.record.Record.{Record}
 use Rattle.protocol.specs.declared.scan.Request.{Request}
 use Rattle.protocol.specs.declared.standing.Standing.{Standing}
 use Rattle.protocol.specs.declared.standing.Aim.the-variants.{End}
 use Rattle.protocol.specs.declared.standing.Standing.the-variants.{Running, Withdrawing, PastPivot}
-use Rattle.protocol.specs.declared.answer.Turn.{Turn}
-use Rattle.protocol.specs.declared.answer.Turn.the-variants as turns
 use Rattle.protocol.specs.declared.answer.Answer.{Answer}
-use Rattle.protocol.specs.declared.answer.Answer.the-variants.{Loaded, Opened, Cancelled, Stepped, Refused}
-use Rattle.program.specs.declared.refusal.Refusal as text
-use Rattle.program.specs.Refusals.{number-of}
-use Rattle.protocol.specs.declared.answer.Layer.{Layer}
-use Rattle.protocol.specs.declared.answer.Layer.the-variants as layers
+use Rattle.protocol.specs.declared.answer.Answer.the-variants.{Loaded, Opened, Cancelled, Refused}
 use Rattle.protocol.specs.declared.answer.Refusal.{Refusal}
 use Rattle.protocol.specs.declared.answer.Refusal.the-variants.{BadText, NoPlace, Busy, NoActivity, WrongKind, NotLoaded, Full, NoNumber, NoRoom, NoProcess, IsPastPivot, IsWithdrawing, LongList, UnknownKind}
 use Rattle.station.specs.Meaning.{Meaning}
-use Rattle.program.specs.Grammar.{Body, body-steps, Yields}
-use Rattle.program.specs.Outcome.{Outcome-by}
+use Rattle.program.specs.Grammar.{Body, body-steps}
 use Rattle.program.specs.declared.command.Kind.{Kind}
 use Rattle.program.specs.declared.command.Kind.the-variants.{Compensatable, Pivot, Retriable}
 use Rattle.program.specs.declared.command.Step.{Step}
-use Rattle.protocol.specs.Log.{any}
-use Rattle.protocol.specs.Hall.{Process, Hall, find, changed, stand, with-processes, beginning}
-use Rattle.protocol.specs.Rules.{Outcome, answered, step-of}
-
--- a program is the tree of a text that was read
-abbrev pub IsProgram : Body → Type 0
-IsProgram b = (t : List ℕ) × Yields t b
-
--- A call on a hall. A program is spoken of by its tree, with the text that it is read from. Installing names the text and what reading it
--- comes to: the tree, and the refusal if there is one; of another tree or refusal there is no such call.
-pub data Call : Type 0 where
-  loading : ℕ → (b : Body) → IsProgram b → Call
-  installing : ℕ → (t : List ℕ) (b : Body) (o : Option text.Refusal) → Outcome-by t b o → Call
-  opening : ℕ → Call
-  stepping : ℕ → Call
-  cancelling : ℕ → Call
-
--- the first objection
-abbrev pub else : {X : Type 0} → Option X → Option X → Option X
-else None o = o
-else (Some x) o = Some x
+use Rattle.protocol.specs.Log.{any, committed-records}
+use Rattle.protocol.specs.Hall.{Process, Hall, find, changed, stand, with-processes, with-program, with-process, Outcome, answered}
+use Rattle.protocol.specs.Call.{Call, loading, installing, opening, stepping, cancelling, Event, call, scan}
+use Rattle.protocol.specs.Letters.{call-of, written}
+use Rattle.protocol.specs.StepFunction.{step-of}
 
 abbrev pub fits : {S : Type 0} → Meaning S → Kind → ℕ → Bool
 fits M Compensatable a = M .compensatable a
@@ -65,9 +41,6 @@ abbrev pub faults : {S : Type 0} → Meaning S → ℕ → List Step → Option 
 faults M i [] = None
 faults M i (s ∷ ss) = else (fault M i s) (faults M (suc i) ss)
 
-abbrev pub committed-records : List Record → List Record
-committed-records log = kept-by (λ r. not (eqb (r .commit) 0)) log
-
 module _ {S : Type 0} where
   abbrev pub refused-or : Hall S → Option Refusal → Outcome S → Outcome S
   refused-or h None on = on
@@ -75,10 +48,6 @@ module _ {S : Type 0} where
 
   abbrev pub against-load : Meaning S → Hall S → ℕ → Body → Option Refusal
   against-load M h k b = else (when (ltb 7 k) NoPlace) (else (when (any (λ q. eqb (q .place) k) (h .processes)) Busy) (faults M 0 (body-steps b)))
-
-  -- the hall with a program at the place
-  abbrev pub with-program : Hall S → ℕ → Body → Hall S
-  with-program h k b = record { station = h .station; log = h .log; processes = h .processes; programs = set (h .programs) k (Some b); given = h .given; committed = h .committed }
 
   abbrev pub loaded : Hall S → ℕ → Body → Outcome S
   loaded h k b = answered (with-program h k b) Loaded
@@ -91,17 +60,13 @@ module _ {S : Type 0} where
       (else (when (leb 65535 (h .given)) NoNumber)
       (when (ltb 1024 (length (committed-records (h .log)) + 32 * (length (h .processes) + 1))) NoRoom))))
 
-  -- the hall with one process more, which runs from the beginning of the program at the place, under the next start number
-  abbrev pub with-process : Hall S → ℕ → Hall S
-  with-process h k = record { station = h .station; log = h .log; processes = h .processes ++ record { start = suc (h .given); place = k; standing = Running; at = beginning (h .programs) k } ∷ []; programs = h .programs; given = suc (h .given); committed = h .committed }
-
   abbrev pub opened : Hall S → ℕ → Outcome S
   opened h k = answered (with-process h k) (Opened (suc (h .given)))
 
   abbrev pub cancel-by : Hall S → Process → Standing → Outcome S
   cancel-by h p Running = answered (with-processes h (changed (p .start) (stand (Withdrawing End)) (h .processes))) Cancelled
-  cancel-by h p (Withdrawing restart) = answered h (Refused IsWithdrawing)
-  cancel-by h p (PastPivot back) = answered h (Refused IsPastPivot)
+  cancel-by h p (Withdrawing aim) = answered h (Refused IsWithdrawing)
+  cancel-by h p (PastPivot way) = answered h (Refused IsPastPivot)
 
   abbrev pub cancel-of : Hall S → Option Process → Outcome S
   cancel-of h None = answered h (Refused NoProcess)
@@ -126,9 +91,6 @@ module _ {S : Type 0} where
 
 -- scan lists: each record is one call
 
-abbrev pub call-of : Request → Option Call
-call-of r = else (when (eqb (r .kind) 79) (opening (r .operand))) (else (when (eqb (r .kind) 83) (stepping (r .operand))) (when (eqb (r .kind) 88) (cancelling (r .operand))))
-
 abbrev pub and-call : Option Call → List Call → List Call
 and-call None cs = cs
 and-call (Some c) cs = c ∷ cs
@@ -136,60 +98,6 @@ and-call (Some c) cs = c ∷ cs
 abbrev pub calls-of : List Request → List Call
 calls-of [] = []
 calls-of (r ∷ rs) = and-call (call-of r) (calls-of rs)
-
--- the number of a refusal
-abbrev pub code : Refusal → ℕ
-code (BadText e) = number-of (e .fault)
-code NoPlace = 7
-code Busy = 8
-code (NoActivity i) = 9
-code (WrongKind i) = 10
-code NotLoaded = 11
-code Full = 12
-code NoNumber = 13
-code NoRoom = 14
-code NoProcess = 15
-code IsPastPivot = 16
-code IsWithdrawing = 17
-code LongList = 18
-code UnknownKind = 19
-
--- the layer that a refusal comes from
-abbrev pub layer : Refusal → Layer
-layer (BadText e) = layers.Text
-layer NoPlace = layers.Hall
-layer Busy = layers.Hall
-layer (NoActivity i) = layers.Station
-layer (WrongKind i) = layers.Station
-layer NotLoaded = layers.Hall
-layer Full = layers.Hall
-layer NoNumber = layers.Hall
-layer NoRoom = layers.Hall
-layer NoProcess = layers.Hall
-layer IsPastPivot = layers.Hall
-layer IsWithdrawing = layers.Hall
-layer LongList = layers.Hall
-layer UnknownKind = layers.Hall
-
-abbrev pub write : Request → ℕ → ℕ → Request
-write r l n = record { kind = r .kind; operand = r .operand; letter = l; number = n }
-
-abbrev pub write-turn : Request → Turn → Request
-write-turn r (turns.Done x) = write r 68 x
-write-turn r turns.Failed = write r 70 0
-write-turn r (turns.Wait n) = write r 87 n
-write-turn r (turns.Undone a) = write r 85 a
-write-turn r turns.Restarted = write r 65 0
-write-turn r turns.Gone = write r 71 0
-write-turn r (turns.Next k) = write r 78 k
-write-turn r (turns.Committed c) = write r 75 c
-
-abbrev pub written : Request → Answer → Request
-written r Loaded = r
-written r (Opened n) = write r 79 n
-written r Cancelled = write r 88 0
-written r (Stepped t) = write-turn r t
-written r (Refused f) = write r 33 (code f)
 
 -- a scan list: the hall, and the records with their answers
 pub record Scan (S : Type 0) : Type 0 where
@@ -213,11 +121,6 @@ module _ {S : Type 0} where
   -- over 64 records: refused, and nothing is written
   abbrev pub scan-outcome : Meaning S → Hall S → List Request → Scan S
   scan-outcome M h rs = cond (ltb 64 (length rs)) record { hall = h; records = rs; refusal = Some LongList } (scanned M h rs)
-
--- what may come in: a call, or a scan list
-pub data Event : Type 0 where
-  call : Call → Event
-  scan : List Request → Event
 
 -- the calls that it comes to; a scan list that is too long comes to none
 abbrev pub singles : Event → List Call
