@@ -1,9 +1,10 @@
--- Halls worked through by hand: each call with the answer that it gets. Assumes nothing.
-use mathlib.Core.Path.{_≡_}
+-- Halls worked through by hand: each call and scan list with what is told of it.
+use mathlib.Core.Path.{_≡_, refl}
 use mathlib.Core.List.{List, [], _∷_, map}
 use Prim.Native.Nat.{ℕ}
+use lib.Dec.{lit≤}
 use Rattle.activity.specs.declared.Activity.{Activity}
-use Rattle.program.specs.Grammar.{Yields, Body, finish, compensatable, pivot, row, orElse}
+use Rattle.program.specs.Grammar.{Body, finish, compensatable, pivot, row, orElse}
 use Rattle.program.specs.Worked.{Worked-texts}
 use Rattle.station.specs.Meaning.{Meaning}
 use Rattle.station.specs.Pair.{Both, paired}
@@ -15,10 +16,13 @@ use Rattle.protocol.specs.declared.answer.Turn.{Turn}
 use Rattle.protocol.specs.declared.answer.Turn.the-variants.{Done, Failed, Wait, Undone, Restarted, Gone, Next, Committed}
 use Rattle.protocol.specs.declared.answer.Answer.{Answer}
 use Rattle.protocol.specs.declared.answer.Answer.the-variants.{Loaded, Opened, Cancelled, Stepped, Refused}
-use Rattle.protocol.specs.declared.answer.Refusal.the-variants.{IsPastPivot}
-use Rattle.protocol.specs.Hall.{fresh}
-use Rattle.protocol.specs.Call.{Call, loading, opening, stepping, cancelling}
-use Rattle.protocol.specs.CallFunction.{replies}
+use Rattle.protocol.specs.declared.answer.Refusal.{Refusal}
+use Rattle.protocol.specs.declared.answer.Refusal.the-variants.{NoPlace, Busy, NotLoaded, NoProcess, IsPastPivot, IsWithdrawing}
+use Rattle.protocol.specs.declared.scan.Request.{Request}
+use Rattle.protocol.specs.Hall.{Hall, fresh}
+use Rattle.protocol.specs.Call.{IsProgram, Call, loading, opening, stepping, cancelling, Event, call, scan}
+use Rattle.protocol.specs.Book.{Told, called, scan-served}
+use Rattle.protocol.specs.Statements.{Runs}
 
 -- ---- the station: lanes and a register, side by side, as they are at first
 
@@ -54,43 +58,77 @@ flag-then-give = pivot (at-lane-3 4) (orElse (compensatable (at-lane-3 1) finish
 abbrev pub give-then-flag : Body
 give-then-flag = compensatable (at-lane-3 1) (pivot (at-lane-3 4) (row []))
 
--- ---- a worked hall: calls, each with its answer
+-- ---- their texts
+
+-- `C 00 0003 .`
+abbrev pub take-one-read : IsProgram take-one
+take-one-read = (67 ∷ 0 ∷ 0 ∷ 3 ∷ 46 ∷ [], record { spelled = refl; short = lit≤ tt; few = lit≤ tt; shallow = lit≤ tt })
+
+-- `C 01 0003 .`
+abbrev pub give-one-read : IsProgram give-one
+give-one-read = (67 ∷ 1 ∷ 0 ∷ 3 ∷ 46 ∷ [], record { spelled = refl; short = lit≤ tt; few = lit≤ tt; shallow = lit≤ tt })
+
+-- `C 00 0003 P 03 0003 [ R 04 0003 ] .`
+abbrev pub take-send-flag-read : IsProgram take-send-flag
+take-send-flag-read = (67 ∷ 0 ∷ 0 ∷ 3 ∷ 80 ∷ 3 ∷ 0 ∷ 3 ∷ 91 ∷ 82 ∷ 4 ∷ 0 ∷ 3 ∷ 93 ∷ 46 ∷ [], record { spelled = refl; short = lit≤ tt; few = lit≤ tt; shallow = lit≤ tt })
+
+-- `P 04 0003 [ C 01 0003 | ] .`
+abbrev pub flag-then-give-read : IsProgram flag-then-give
+flag-then-give-read = (80 ∷ 4 ∷ 0 ∷ 3 ∷ 91 ∷ 67 ∷ 1 ∷ 0 ∷ 3 ∷ 124 ∷ 93 ∷ 46 ∷ [], record { spelled = refl; short = lit≤ tt; few = lit≤ tt; shallow = lit≤ tt })
+
+-- `C 01 0003 P 04 0003 [ ] .`
+abbrev pub give-then-flag-read : IsProgram give-then-flag
+give-then-flag-read = (67 ∷ 1 ∷ 0 ∷ 3 ∷ 80 ∷ 4 ∷ 0 ∷ 3 ∷ 91 ∷ 93 ∷ 46 ∷ [], record { spelled = refl; short = lit≤ tt; few = lit≤ tt; shallow = lit≤ tt })
+
+-- ---- a worked hall: calls and scan lists, each with what is told of it
 
 abbrev pub Line : Type 0
-Line = Call × Answer
+Line = Event × Told
+
+-- a call and its answer
+abbrev pub answered : Call → Answer → Line
+answered c a = (call c, called c a)
 
 -- a step of the process of a start number, and what it comes to
 abbrev pub step : ℕ → Turn → Line
-step n t = (stepping n, Stepped t)
+step n t = answered (stepping n) (Stepped t)
 
 -- an order to withdraw, and its answer
 abbrev pub cancel : ℕ → Answer → Line
-cancel n a = (cancelling n, a)
+cancel n a = answered (cancelling n) a
+
+-- a call that is refused, and why
+abbrev pub refused : Call → Refusal → Line
+refused c r = answered c (Refused r)
+
+-- a scan list, and its records afterwards
+abbrev pub scans : List Request → List Request → Line
+scans rs ws = (scan rs, scan-served ws)
 
 -- one program, loaded at 0, runs as process 1
-abbrev pub alone : Body → List Line → List Line
-alone b ls = (loading 0 b, Loaded) ∷ (opening 0, Opened 1) ∷ ls
+abbrev pub alone : {b : Body} → IsProgram b → List Line → List Line
+alone {b} read ls = answered (loading 0 b read) Loaded ∷ answered (opening 0) (Opened 1) ∷ ls
 
 -- two programs, loaded at 0 and 1, run as processes 1 and 2
-abbrev pub together : Body → Body → List Line → List Line
-together a b ls = (loading 0 a, Loaded) ∷ (loading 1 b, Loaded) ∷ (opening 0, Opened 1) ∷ (opening 1, Opened 2) ∷ ls
+abbrev pub together : {a b : Body} → IsProgram a → IsProgram b → List Line → List Line
+together {a} {b} read too ls = answered (loading 0 a read) Loaded ∷ answered (loading 1 b too) Loaded ∷ answered (opening 0) (Opened 1) ∷ answered (opening 1) (Opened 2) ∷ ls
 
--- the calls, made of a fresh hall over that station, are answered so
+-- the calls and scan lists, made of a fresh hall over that station, run so by the rules
 abbrev pub Comes-out : List Line → Type 0
-Comes-out ls = replies sides-meaning (fresh first-sides) (map (λ l. l .0) ls) ≡ map (λ l. l .1) ls
+Comes-out ls = (h : Hall Sides) × Runs sides-meaning (fresh first-sides) (map (λ l. l .0) ls) (map (λ l. l .1) ls) h
 
 -- ---- the halls
 
 abbrev pub refused-and-left : List Line
 refused-and-left =
-    alone give-one
+    alone give-one-read
     (step 1 Failed
     ∷ step 1 Gone
     ∷ [])
 
 abbrev pub commits-in-order : List Line
 commits-in-order =
-    together take-one give-one
+    together take-one-read give-one-read
     (step 1 (Done 0)
     ∷ step 2 (Done 0)
     ∷ step 2 (Wait 1)
@@ -100,7 +138,7 @@ commits-in-order =
 
 abbrev pub withdrawal-cascades : List Line
 withdrawal-cascades =
-    together take-one give-one
+    together take-one-read give-one-read
     (step 1 (Done 0)
     ∷ step 2 (Done 0)
     ∷ cancel 1 Cancelled
@@ -114,7 +152,7 @@ withdrawal-cascades =
 
 abbrev pub past-pivot-stays : List Line
 past-pivot-stays =
-    together take-one take-send-flag
+    together take-one-read take-send-flag-read
     (step 1 (Done 0)
     ∷ step 2 (Done 0)
     ∷ step 2 (Wait 1)
@@ -127,7 +165,7 @@ past-pivot-stays =
 
 abbrev pub second-alternative : List Line
 second-alternative =
-    together take-one flag-then-give
+    together take-one-read flag-then-give-read
     (step 2 (Done 0)
     ∷ step 1 (Done 0)
     ∷ step 2 (Wait 1)
@@ -140,14 +178,14 @@ second-alternative =
 
 abbrev pub pivots-apart : List Line
 pivots-apart =
-    together flag-then-give flag-then-give
+    together flag-then-give-read flag-then-give-read
     (step 1 (Done 0)
     ∷ step 2 (Wait 1)
     ∷ [])
 
 abbrev pub younger-gives-way : List Line
 younger-gives-way =
-    together give-one take-one
+    together give-one-read take-one-read
     (step 2 (Done 0)
     ∷ step 1 (Wait 2)
     ∷ step 2 (Undone 0)
@@ -157,7 +195,7 @@ younger-gives-way =
 
 abbrev pub pivot-waits-for-older : List Line
 pivot-waits-for-older =
-    together take-one give-then-flag
+    together take-one-read give-then-flag-read
     (step 1 (Done 0)
     ∷ step 2 (Done 0)
     ∷ step 2 (Wait 1)
@@ -166,17 +204,38 @@ pivot-waits-for-older =
     ∷ step 2 (Committed 2)
     ∷ [])
 
+-- a scan record as it comes, with nothing written in its last two fields, and as it is answered
+abbrev pub asks : ℕ → ℕ → Request
+asks kind operand = record { kind = kind; operand = operand; letter = 0; number = 0 }
+
+abbrev pub told : ℕ → ℕ → ℕ → ℕ → Request
+told kind operand letter number = record { kind = kind; operand = operand; letter = letter; number = number }
+
+-- O is 79, S is 83, X is 88; the letters of the answers: O 79, D 68, W 87, U 85, A 65, G 71, K 75, F 70, X 88, ! 33
+abbrev pub scan-list-answered : List Line
+scan-list-answered =
+    answered (loading 0 take-one take-one-read) Loaded
+    ∷ answered (loading 1 give-one give-one-read) Loaded
+    ∷ scans
+      (asks 79 0 ∷ asks 79 1 ∷ asks 83 1 ∷ asks 83 2 ∷ asks 83 2 ∷ asks 88 1 ∷ asks 88 1 ∷ asks 83 1 ∷ asks 83 2 ∷ asks 83 1 ∷ asks 83 1 ∷ asks 83 2 ∷ asks 83 2 ∷ asks 83 2 ∷ asks 83 3 ∷ asks 79 8 ∷ asks 79 2 ∷ asks 76 0 ∷ [])
+      (told 79 0 79 1 ∷ told 79 1 79 2 ∷ told 83 1 68 0 ∷ told 83 2 68 0 ∷ told 83 2 87 1 ∷ told 88 1 88 0 ∷ told 88 1 33 17 ∷ told 83 1 87 2 ∷ told 83 2 85 1 ∷ told 83 1 85 0 ∷ told 83 1 71 0 ∷ told 83 2 65 0 ∷ told 83 2 70 0 ∷ told 83 2 71 0 ∷ told 83 3 33 15 ∷ told 79 8 33 7 ∷ told 79 2 33 11 ∷ told 76 0 33 19 ∷ [])
+    ∷ []
+
+abbrev pub calls-refused : List Line
+calls-refused =
+    refused (loading 8 take-one take-one-read) NoPlace
+    ∷ refused (opening 8) NoPlace
+    ∷ refused (opening 0) NotLoaded
+    ∷ refused (stepping 1) NoProcess
+    ∷ refused (cancelling 1) NoProcess
+    ∷ answered (loading 0 take-one take-one-read) Loaded
+    ∷ answered (opening 0) (Opened 1)
+    ∷ refused (loading 0 give-one give-one-read) Busy
+    ∷ cancel 1 Cancelled
+    ∷ cancel 1 (Refused IsWithdrawing)
+    ∷ []
+
 pub record Worked-halls : Type 0 where
-  -- `C 00 0003 .`
-  pub take-one-text : Yields (67 ∷ 0 ∷ 0 ∷ 3 ∷ 46 ∷ []) take-one
-  -- `C 01 0003 .`
-  pub give-one-text : Yields (67 ∷ 1 ∷ 0 ∷ 3 ∷ 46 ∷ []) give-one
-  -- `C 01 0003 P 04 0003 [ ] .`
-  pub give-then-flag-text : Yields (67 ∷ 1 ∷ 0 ∷ 3 ∷ 80 ∷ 4 ∷ 0 ∷ 3 ∷ 91 ∷ 93 ∷ 46 ∷ []) give-then-flag
-  -- `C 00 0003 P 03 0003 [ R 04 0003 ] .`
-  pub take-send-flag-text : Yields (67 ∷ 0 ∷ 0 ∷ 3 ∷ 80 ∷ 3 ∷ 0 ∷ 3 ∷ 91 ∷ 82 ∷ 4 ∷ 0 ∷ 3 ∷ 93 ∷ 46 ∷ []) take-send-flag
-  -- `P 04 0003 [ C 01 0003 | ] .`
-  pub flag-then-give-text : Yields (80 ∷ 4 ∷ 0 ∷ 3 ∷ 91 ∷ 67 ∷ 1 ∷ 0 ∷ 3 ∷ 124 ∷ 93 ∷ 46 ∷ []) flag-then-give
   -- an order that asks a bag of an empty lane is refused it, and leaves
   pub refused-and-left : Comes-out refused-and-left
   -- the second order gave out the bag that the first took in: it waits with its commit until the first has committed
@@ -193,5 +252,9 @@ pub record Worked-halls : Type 0 where
   pub younger-gives-way : Comes-out younger-gives-way
   -- the second order gave out the bag that the first took in: it waits with its pivot until the first has committed
   pub pivot-waits-for-older : Comes-out pivot-waits-for-older
+  -- openings, steps and cancellings in one scan list, each record answered by letter and number, bad records among them
+  pub scan-list-answered : Comes-out scan-list-answered
+  -- calls that are refused, and the hall goes on as if they had not come
+  pub calls-refused : Comes-out calls-refused
   -- the texts worked through
   pub texts : Worked-texts
