@@ -217,8 +217,8 @@ scan-list-answered =
     answered (loading 0 take-one take-one-read) Loaded
     ∷ answered (loading 1 give-one give-one-read) Loaded
     ∷ scans
-      (asks 79 0 ∷ asks 79 1 ∷ asks 83 1 ∷ asks 83 2 ∷ asks 83 2 ∷ asks 88 1 ∷ asks 88 1 ∷ asks 83 1 ∷ asks 83 2 ∷ asks 83 1 ∷ asks 83 1 ∷ asks 83 2 ∷ asks 83 2 ∷ asks 83 2 ∷ asks 83 3 ∷ asks 79 8 ∷ asks 79 2 ∷ asks 76 0 ∷ [])
-      (told 79 0 79 1 ∷ told 79 1 79 2 ∷ told 83 1 68 0 ∷ told 83 2 68 0 ∷ told 83 2 87 1 ∷ told 88 1 88 0 ∷ told 88 1 33 17 ∷ told 83 1 87 2 ∷ told 83 2 85 1 ∷ told 83 1 85 0 ∷ told 83 1 71 0 ∷ told 83 2 65 0 ∷ told 83 2 70 0 ∷ told 83 2 71 0 ∷ told 83 3 33 15 ∷ told 79 8 33 7 ∷ told 79 2 33 11 ∷ told 76 0 33 19 ∷ [])
+    (asks 79 0 ∷ asks 79 1 ∷ asks 83 1 ∷ asks 83 2 ∷ asks 83 2 ∷ asks 88 1 ∷ asks 88 1 ∷ asks 83 1 ∷ asks 83 2 ∷ asks 83 1 ∷ asks 83 1 ∷ asks 83 2 ∷ asks 83 2 ∷ asks 83 2 ∷ asks 83 3 ∷ asks 79 8 ∷ asks 79 2 ∷ asks 76 0 ∷ [])
+    (told 79 0 79 1 ∷ told 79 1 79 2 ∷ told 83 1 68 0 ∷ told 83 2 68 0 ∷ told 83 2 87 1 ∷ told 88 1 88 0 ∷ told 88 1 33 17 ∷ told 83 1 87 2 ∷ told 83 2 85 1 ∷ told 83 1 85 0 ∷ told 83 1 71 0 ∷ told 83 2 65 0 ∷ told 83 2 70 0 ∷ told 83 2 71 0 ∷ told 83 3 33 15 ∷ told 79 8 33 7 ∷ told 79 2 33 11 ∷ told 76 0 33 19 ∷ [])
     ∷ []
 
 abbrev pub calls-refused : List Line
