@@ -28,7 +28,7 @@ static const struct text_case cases[] = {
     {"bytes after the full stop", TEXT("C\x00\x00\x03.\n"), 6, 5},
 };
 
-/* 33 steps, and 256 bytes: made here, since they are long to write. */
+/* The texts that are long to write are made here. A row of steps: 4 bytes for each, and 1 for the full stop. */
 static uint32_t many_steps(size_t steps, uint8_t *area) {
     size_t length = 0;
     for (size_t i = 0; i < steps; i++) {
@@ -37,6 +37,22 @@ static uint32_t many_steps(size_t steps, uint8_t *area) {
         area[length++] = 0;
         area[length++] = 3;
     }
+    area[length++] = '.';
+    return program_text_check(area, length);
+}
+
+/* A pivot with empty alternatives, so many that the text has the given number of bytes, at least 7. */
+static uint32_t many_alternatives(size_t bytes, uint8_t *area) {
+    size_t length = 0;
+    area[length++] = 'P';
+    area[length++] = 3;
+    area[length++] = 0;
+    area[length++] = 3;
+    area[length++] = '[';
+    while (length + 2 < bytes) {
+        area[length++] = '|';
+    }
+    area[length++] = ']';
     area[length++] = '.';
     return program_text_check(area, length);
 }
@@ -58,7 +74,9 @@ int main(void) {
     }
     wrong += expect("32 steps", many_steps(32, area), 0, 0);
     wrong += expect("33 steps", many_steps(33, area), 4, 128);
-    wrong += expect("1,025 bytes", many_steps(256, area), 1, 255);
+    wrong += expect("255 bytes, 249 alternatives", many_alternatives(255, area), 0, 0);
+    wrong += expect("256 bytes, 250 alternatives", many_alternatives(256, area), 1, 255);
+    wrong += expect("256 steps, 1,025 bytes", many_steps(256, area), 1, 255);
     wrong += expect("no area at all", program_text_check(NULL, 0), 3, 0);
     if (wrong != 0) {
         printf("%d wrong answers\n", wrong);

@@ -1,4 +1,4 @@
-// What a step asks of a station. The only place that fixes how wide an activity's number and its parameter are.
+// What a step asks of a station, and how wide its number and its parameter are.
 
 // An activity of a station, by its number, with the parameter that it is asked with.
 #[derive(Clone, Copy, PartialEq, Eq, Debug)]

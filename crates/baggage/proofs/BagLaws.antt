@@ -1,4 +1,4 @@
--- The register keeps the laws. Assumes nothing.
+-- The register keeps the laws.
 use mathlib.Core.Path.{_≡_, refl, sym, ap, _∙_, subst}
 use mathlib.Core.List.{List, [], _∷_}
 use mathlib.Core.Bool.{Bool, true, false, not, _||_, _&&_}

@@ -1,4 +1,4 @@
--- A row of cells keeps the laws that its cells keep. Assumes nothing.
+-- A row of cells keeps the laws that its cells keep.
 use mathlib.Core.Path.{_≡_, refl, sym, ap, _∙_, subst}
 use mathlib.Core.List.{List, [], _∷_}
 use mathlib.Core.Bool.{Bool, true, false, cond}

@@ -1,4 +1,4 @@
--- When two activities on one cell may change places. Assumes nothing.
+-- When two activities on one cell may change places.
 use mathlib.Core.Path.{_≡_, refl, sym, ap, _∙_}
 use Prim.Native.Nat.{ℕ}
 use Rattle.std.specs.declared.option.Option.{Option}

@@ -1,4 +1,4 @@
--- A catalogue's table against its listing: one test over the whole table, and the rule that it gives at each number. Assumes nothing.
+-- A catalogue's table against its listing: one test over the whole table, and the rule that it gives at each number.
 use mathlib.Core.Path.{_≡_, refl, ap, sym, subst, _∙_}
 use mathlib.Core.Bool.{Bool, true, false, not, cond, _&&_, _||_}
 use mathlib.Core.List.{List, [], _∷_}

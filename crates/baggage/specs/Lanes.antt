@@ -1,4 +1,4 @@
--- What the activities of the early bag store mean. Assumes nothing.
+-- What the activities of the early bag store mean.
 use mathlib.Core.List.{List, [], _∷_}
 use mathlib.Core.Bool.{Bool, true, false, cond}
 use mathlib.Core.Path.{_≡_, refl, _∙_}

@@ -1,4 +1,4 @@
--- What the activities of the register mean. Assumes nothing.
+-- What the activities of the register mean.
 use mathlib.Core.List.{List, [], _∷_}
 use mathlib.Core.Bool.{Bool, true, false}
 use mathlib.Core.Path.{_≡_, _∙_}

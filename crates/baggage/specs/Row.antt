@@ -1,4 +1,4 @@
--- A station that is a row of cells: each activity works on the one cell that its parameter names. Assumes nothing.
+-- A station that is a row of cells: each activity works on the one cell that its parameter names.
 use mathlib.Core.Path.{_≡_}
 use mathlib.Core.List.{List, [], _∷_}
 use mathlib.Core.Bool.{Bool, true, false, cond}

@@ -1,4 +1,4 @@
--- A catalogue as the rules list it, and as a table of the code has it. Assumes nothing.
+-- A catalogue as the rules list it, and as a table of the code has it.
 use mathlib.Core.Path.{_≡_}
 use mathlib.Core.List.{List, [], _∷_}
 use mathlib.Core.Bool.{Bool, true, false, not, cond, _&&_, _||_}

@@ -1,4 +1,4 @@
--- The steps of the loops that read a line. Assumes nothing.
+-- The steps of the loops that read a line.
 use mathlib.Core.Path.{_≡_, refl, sym, ap, _∙_}
 use mathlib.Core.Bool.{Bool, true, false, cond}
 use mathlib.Core.List.{List, [], _∷_}

@@ -1,4 +1,4 @@
--- What the lines of stationbench say. Assumes nothing.
+-- What the lines of stationbench say.
 use mathlib.Core.List.{List, [], _∷_}
 use mathlib.Core.Bool.{Bool, true, false, cond, not, _&&_, _||_}
 use Prim.Native.Nat.{ℕ, _+_, _-_, _*_}

@@ -1,4 +1,4 @@
--- A pair keeps the laws of its two stations. Assumes nothing.
+-- A pair keeps the laws of its two stations.
 use mathlib.Core.Path.{_≡_, refl, sym, ap, _∙_}
 use mathlib.Core.Bool.{true, false, cond}
 use Prim.Native.Nat.{ℕ, _≤_, _-_}

@@ -1,4 +1,4 @@
--- A part of a state: what works on the part alone keeps the laws over the whole state. Assumes nothing.
+-- A part of a state: what works on the part alone keeps the laws over the whole state.
 use mathlib.Core.Path.{_≡_, refl, sym, ap, _∙_}
 use mathlib.Core.Bool.{true}
 use Prim.Native.Nat.{ℕ}

@@ -1,4 +1,4 @@
--- A renumbered station keeps the laws of the station below it. Assumes nothing.
+-- A renumbered station keeps the laws of the station below it.
 use mathlib.Core.Path.{_≡_, refl, sym, ap, _∙_}
 use Prim.Native.Nat.{ℕ}
 use Rattle.std.specs.declared.option.Option.{Option}

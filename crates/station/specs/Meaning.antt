@@ -1,4 +1,4 @@
--- What a station means, and the laws that every station keeps. Assumes nothing.
+-- What a station means, and the laws that every station keeps.
 use mathlib.Core.Path.{_≡_}
 use mathlib.Core.Bool.{Bool, true, false}
 use Prim.Native.Nat.{ℕ, _≤_}

@@ -1,4 +1,4 @@
--- What a pair of stations means. Assumes nothing.
+-- What a pair of stations means.
 use Prim.Native.Nat.{ℕ, _-_}
 use lib.Dec.{ltb}
 use mathlib.Core.Bool.{Bool, true, false, cond}

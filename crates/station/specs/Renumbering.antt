@@ -1,4 +1,4 @@
--- What a renumbered station means. Assumes nothing.
+-- What a renumbered station means.
 use Prim.Native.Nat.{ℕ, _+_, _%_}
 use Rattle.activity.specs.declared.Activity.{Activity}
 use Rattle.station.specs.Meaning.{Meaning, lifted}

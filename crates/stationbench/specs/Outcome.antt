@@ -1,4 +1,4 @@
--- What a line gives at a station, and what it does to it. Assumes nothing.
+-- What a line gives at a station, and what it does to it.
 use mathlib.Core.Bool.{Bool, true, false, cond}
 use Prim.Native.Nat.{ℕ}
 use lib.Dec.{ltb}

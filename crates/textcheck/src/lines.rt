@@ -9,19 +9,36 @@ use program::read;
 use std::error::AnyError;
 use std::io;
 
-pub fn show(rt: &LibcRuntime, number: usize, line: &str) -> Result<(), AnyError> {
-    match decode(rt.alloc(), line.as_bytes()) {
+// A line without the line feed that ends it, and without a carriage return before that.
+pub fn without_end(line: &[u8]) -> &[u8] {
+    without_last(without_last(line, b'\n'), b'\r')
+}
+
+// The bytes without the last one, where that is the one given.
+fn without_last(bytes: &[u8], last: u8) -> &[u8] {
+    let before = bytes.len().saturating_sub(1);
+    match bytes.get(before) {
+        Some(byte) if *byte == last => &bytes[0..before],
+        _ => bytes,
+    }
+}
+
+// Says what a line is. Its bytes need not be UTF-8.
+pub fn show(rt: &LibcRuntime, number: u64, line: &[u8]) -> Result<(), AnyError> {
+    match decode(rt.alloc(), line) {
         Ok(bytes) => show_text(rt, number, bytes.as_slice()),
-        Err(Unreadable::At(column)) => {
-            show_unreadable(rt, number, line, column)?;
-            Ok(())
-        }
+        Err(Unreadable::At(column)) => show_unreadable(rt, number, line, column),
         Err(Unreadable::NoMemory) => Err("out of memory".into()),
     }
 }
 
-// Columns are shown from 1, as editors count them.
-fn show_unreadable(rt: &LibcRuntime, number: usize, line: &str, column: usize) -> io::Result<()> {
+// Columns are shown from 1, as editors count them. What is not UTF-8 is printed as the replacement character.
+fn show_unreadable(
+    rt: &LibcRuntime,
+    number: u64,
+    line: &[u8],
+    column: usize,
+) -> Result<(), AnyError> {
     let shown = column.saturating_add(1);
     if column >= line.len() {
         println!(
@@ -34,11 +51,13 @@ fn show_unreadable(rt: &LibcRuntime, number: usize, line: &str, column: usize) -
             "line {number}, column {shown}: this cannot stand here (--help explains the notation)"
         )?;
     }
-    println!(rt, "    {line}")?;
-    caret(rt, column)
+    let text = String::from_utf8_lossy(rt.alloc(), line)?;
+    println!(rt, "    {text}")?;
+    caret(rt, column)?;
+    Ok(())
 }
 
-fn show_text(rt: &LibcRuntime, number: usize, bytes: &[u8]) -> Result<(), AnyError> {
+fn show_text(rt: &LibcRuntime, number: u64, bytes: &[u8]) -> Result<(), AnyError> {
     let text = encode(rt.alloc(), bytes)?;
     let reading = read(bytes);
     match reading.refusal {

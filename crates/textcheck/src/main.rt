@@ -22,10 +22,14 @@ fn run(rt: &LibcRuntime) -> Result<(), AnyError> {
         help::show(rt)?;
         return Ok(());
     }
-    let mut number = 0usize;
-    for line in BufReader::new(rt.stdin()).lines(rt.alloc()) {
-        number = number.saturating_add(1);
-        lines::show(rt, number, line?.as_str())?;
+    let mut input = BufReader::new(rt.stdin());
+    let mut line = Vec::new(rt.alloc());
+    for number in 1..u64::MAX {
+        line.clear();
+        if input.read_until(b'\n', &mut line)? == 0 {
+            break;
+        }
+        lines::show(rt, number, lines::without_end(line.as_slice()))?;
     }
     Ok(())
 }
