@@ -6,7 +6,7 @@ use mathlib.Core.List.{List, [], _∷_, _++_, append-assoc, append-nil}
 use Prim.Native.Nat.{ℕ, zero, suc, _+_, _-_, _<_, _≤_, min}
 use native.Mathlib.Omega.{arith}
 use native.Mathlib.Decide.{decLe}
-use lib.ListN.{take, drop, length, getD, take-append-drop}
+use lib.ListN.{take, drop, length, getD, take-append-drop, length-append}
 use lib.Seq.{length-take-le, getD-take}
 use Rattle.std.proofs.shelf.Lists.{drop-drop, drop-all, take-all, take-more}
 use Rattle.std.specs.declared.option.Option.{Option}
@@ -16,11 +16,12 @@ use Rattle.program.specs.declared.command.Command.{Command}
 use Rattle.program.specs.declared.command.Command.the-variants.{C, P, R, Open, Bar, Close, Stop}
 use Rattle.program.specs.declared.program.Program.{Program}
 use Rattle.program.specs.declared.command.Step.{Step}
+use Rattle.program.specs.declared.command.Kind.{Kind}
 use Rattle.program.specs.declared.command.Kind.the-variants.{Compensatable, Pivot, Retriable}
 use Rattle.program.specs.Grammar.{Body, finish, compensatable, pivot, Choices, row, orElse, row-commands, body-commands, choices-commands, text-commands, step, row-steps, body-steps, choices-steps, Yielded}
 use Rattle.program.specs.Refusals.{weight, step-count}
 use Rattle.program.specs.Positions.{Rest, in-body, in-row, Position, outer, inner, alternative, reached, entered, Next, nothing, comes, next, coming, led, onward}
-use Rattle.program.specs.Places.{program-commands, row-at, body-at, opened-at, choices-at, further-at, rest-at, placed, tree, starts-row, skip, step-of, with-step, steps-among, nth, first, Spells, item-for}
+use Rattle.program.specs.Places.{program-commands, row-at, body-at, opened-at, choices-at, further-at, rest-at, placed, tree, starts-row, skip, step-of, with-step, steps-among, nth, first, Spells, item-for, Left, left-in, left-past, left-after, unless-row, skipped}
 use Rattle.program.specs.Contexts.{Context, in-body-at, at-pivot, at-choice, in-row-at, closed, over, nowhere, go, goes, is-over}
 use Rattle.program.proofs.Trees.{goes-append, goes-nowhere, goes-whole, whole-goes}
 use Rattle.program.proofs.ReadBack.{text-back, text-steps, choices-row, choices-body}
@@ -306,3 +307,37 @@ module _ (p : Program) (at : ℕ) (choices : Option ℕ) (k : ℕ) (s : Step) wh
   -- the step that is next has as its ordinal how many stand before it
   pub ordinal-names : coming (next (placed (program-commands p) at choices k)) ≡ Some s → nth (body-steps (tree p)) (length (steps-among (take at (program-commands p)))) ≡ Some s
   ordinal-names c = ap (λ l. nth l (length (steps-among (take at (program-commands p))))) (sym (program-steps p)) ∙ named-by _ refl c
+
+-- ---- what is left of the text
+-- the steps before a place and those that are left there are all of them
+pub steps-left : (p : Program) (at : ℕ) → length (steps-among (take at (program-commands p))) + length (steps-among (drop at (program-commands p))) ≡ length (body-steps (tree p))
+steps-left p at =
+    let cs = program-commands p in
+    sym (length-append (steps-among (take at cs)) (steps-among (drop at cs)))
+    ∙ ap length (sym (among-append (take at cs) (drop at cs)) ∙ ap steps-among (take-append-drop at cs) ∙ program-steps p)
+
+plain-kind : (k : Kind) (l : Left) → (k ≡ Pivot → ⊥) → record { here = drop 1 (l .here); choices = l .choices } ≡ left-past k l
+plain-kind Compensatable l n = refl
+plain-kind Pivot l n = absurd (n refl)
+plain-kind Retriable l n = refl
+
+module _ (cs : List Command) (at : ℕ) (choices : Option ℕ) (s : Step) (o : Option Step) (e : Some s ≡ o) where
+  pub plain-left : (s .kind ≡ Pivot → ⊥) → left-in cs (at + 1) choices ≡ left-after o (left-in cs at choices)
+  plain-left n =
+      let l = left-in cs at choices in
+      let one : left-in cs (at + 1) choices ≡ record { here = drop 1 (l .here); choices = l .choices } = (λ i. record { here = sym (drop-drop 1 at cs) i; choices = l .choices }) in
+      one ∙ plain-kind (s .kind) l n ∙ ap (λ x. left-after x l) e
+
+  pub crossing-left : s .kind ≡ Pivot → left-in cs (at + 2) (Some (at + 2)) ≡ left-after o (left-in cs at choices)
+  crossing-left n =
+      let l = left-in cs at choices in
+      let two : left-in cs (at + 2) (Some (at + 2)) ≡ left-past Pivot l = (λ i. record { here = sym (drop-drop 2 at cs) i; choices = Some (sym (drop-drop 2 at cs) i) }) in
+      two ∙ ap (λ k. left-past k l) (sym n) ∙ ap (λ x. left-after x l) e
+
+-- the text from an alternative on
+pub row-skipped : (xs : List Command) (k : ℕ) → starts-row xs ≡ true → xs ≡ skipped k xs
+row-skipped xs zero e = refl
+row-skipped xs (suc k) e = sym (ap (λ b. unless-row b xs (skipped k (skip 0 xs))) e)
+
+pub body-skipped : (xs : List Command) (k : ℕ) → starts-row xs ≡ false → skipped k (skip 0 xs) ≡ skipped (suc k) xs
+body-skipped xs k e = sym (ap (λ b. unless-row b xs (skipped k (skip 0 xs))) e)

@@ -9,6 +9,7 @@ use lib.ListN.{length, take, drop}
 use Rattle.activity.specs.declared.Activity.{Activity}
 use Rattle.program.specs.declared.command.Command.{Command}
 use Rattle.program.specs.declared.command.Command.the-variants.{C, P, R, Open, Bar, Close, Stop}
+use Rattle.program.specs.declared.command.Kind.{Kind}
 use Rattle.program.specs.declared.command.Kind.the-variants.{Compensatable, Pivot, Retriable}
 use Rattle.program.specs.declared.command.Step.{Step}
 use Rattle.program.specs.declared.cursor.Cursor.{Cursor}
@@ -178,8 +179,59 @@ abbrev pub Deeper : Command → ℕ → Option ℕ → Type 0
 Deeper c n None = (c ≡ Bar) × (n ≡ 0)
 Deeper c n (Some m) = (m ≤ n + 1) × ((xs : List Command) → skip n (c ∷ xs) ≡ skip m xs)
 
+-- ---- what is left of the text
+-- the text from a place on, and from the beginning of the last pivot's choices on, if there was a pivot
+pub record Left : Type 0 where
+  pub here : List Command
+  pub choices : Option (List Command)
+
+abbrev pub text-from : List Command → Option ℕ → Option (List Command)
+text-from cs None = None
+text-from cs (Some from) = Some (drop from cs)
+
+-- what is left of the commands cs from an index on, in the choices from an index on if any
+abbrev pub left-in : List Command → ℕ → Option ℕ → Left
+left-in cs at choices = record { here = drop at cs; choices = text-from cs choices }
+
+-- what is left at a cursor
+abbrev pub left-at : Program → Cursor → Left
+left-at p c = left-in (program-commands p) (c .at) (c .choices)
+
+-- at the beginning all of the text is left
+abbrev pub all-left : Program → Left
+all-left p = record { here = program-commands p; choices = None }
+
+-- what is left after a step: past a pivot and its opening bracket the choices begin; any other step is one command
+abbrev pub left-past : Kind → Left → Left
+left-past Compensatable l = record { here = drop 1 (l .here); choices = l .choices }
+left-past Pivot l = record { here = drop 2 (l .here); choices = Some (drop 2 (l .here)) }
+left-past Retriable l = record { here = drop 1 (l .here); choices = l .choices }
+
+-- what is left after the step that comes; where none does, the same
+abbrev pub left-after : Option Step → Left → Left
+left-after None l = l
+left-after (Some s) l = left-past (s .kind) l
+
+abbrev pub unless-row : Bool → List Command → List Command → List Command
+unless-row true here later = here
+unless-row false here later = later
+
+-- the text of some choices from their alternative k on: each that is no row ends with a bar, and past a row one does not go
+abbrev pub skipped : ℕ → List Command → List Command
+skipped zero xs = xs
+skipped (suc k) xs = unless-row (starts-row xs) xs (skipped k (skip 0 xs))
+
+abbrev pub left-among : ℕ → Left → Option (List Command) → Left
+left-among k l None = l
+left-among k l (Some xs) = record { here = skipped k xs; choices = Some xs }
+
+-- what is left at the beginning of alternative k of the last pivot; before any pivot, the same
+abbrev pub left-into : ℕ → Left → Left
+left-into k l = left-among k l (l .choices)
+
 -- alternative k of the choices from an index on begins at the index `at`, and its ordinal is n
 pub record Found (p : Program) (from k at n : ℕ) : Type 0 where
   pub there : rest-at (drop at (program-commands p)) ≡ alternative (choices-at (drop from (program-commands p))) k
   pub count : n ≡ reached (choices-at (drop from (program-commands p))) k
   pub low : n ≤ 255
+  pub text : drop at (program-commands p) ≡ skipped k (drop from (program-commands p))

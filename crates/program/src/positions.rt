@@ -1,11 +1,11 @@
 // Going through a program: what stands next at a place, where it leads, and the steps in the order of the text.
 ghost use mathlib.Core.Path.{_≡_};
-ghost use lib.ListN.{drop};
+ghost use lib.ListN.{drop, length};
 ghost use Prim.Native.Nat.{ℕ, _+_, _≤_, _<_};
 ghost use Rattle.std.specs.declared.option.Option.the-variants.{Some};
 ghost use Rattle.program.specs.Grammar.{body-steps, text-commands};
 ghost use Rattle.program.specs.Positions.{outer, next as what-comes, coming, onward as led-on, alternative-of, into as gone-into};
-ghost use Rattle.program.specs.Places.{Found, program-commands, tree, position, nth, first, item-for, row-mark, starts-row, skip, Deeper, steps-before, Spells};
+ghost use Rattle.program.specs.Places.{Found, program-commands, tree, position, nth, first, item-for, row-mark, starts-row, skip, Deeper, steps-among, steps-before, left-at, all-left, left-after, left-into, Spells};
 use crate::Command;
 use crate::Cursor;
 use crate::Kind;
@@ -15,7 +15,8 @@ use crate::Step;
 impl Cursor {
     // The beginning of any program.
     pub fn start() -> Cursor
-        ensures { λ r. ⌜ ((p : Program) → position p r ≡ outer (tree p)) ⌝ }
+        ensures place { λ r. ⌜ ((p : Program) → position p r ≡ outer (tree p)) ⌝ }
+        ensures left { λ r. ⌜ ((p : Program) → left-at p r ≡ all-left p) ⌝ }
     {
         Cursor {
             at: 0,
@@ -97,7 +98,8 @@ impl Program {
 
     // The cursor after the step that is next, a pivot's leading into alternative 0; with nothing next, the same.
     pub fn onward(&self, cursor: Cursor) -> Cursor
-        ensures { λ r. ⌜ position (now (self .entry)) r ≡ led-on (position (now (self .entry)) cursor) ⌝ }
+        ensures place { λ r. ⌜ position (now (self .entry)) r ≡ led-on (position (now (self .entry)) cursor) ⌝ }
+        ensures left { λ r. ⌜ left-at (now (self .entry)) r ≡ left-after (coming (what-comes (position (now (self .entry)) cursor))) (left-at (now (self .entry)) cursor) ⌝ }
     {
         if cursor.at >= self.len {
             return cursor;
@@ -160,7 +162,8 @@ impl Program {
 
     // The beginning of alternative `k` of the last pivot; past the last alternative, of that. Before any pivot, the same.
     pub fn into_alternative(&self, cursor: Cursor, k: u32) -> Cursor
-        ensures { λ r. ⌜ position (now (self .entry)) r ≡ gone-into k (position (now (self .entry)) cursor) ⌝ }
+        ensures place { λ r. ⌜ position (now (self .entry)) r ≡ gone-into k (position (now (self .entry)) cursor) ⌝ }
+        ensures left { λ r. ⌜ left-at (now (self .entry)) r ≡ left-into k (left-at (now (self .entry)) cursor) ⌝ }
     {
         match cursor.choices {
             None => cursor,
@@ -177,7 +180,8 @@ impl Program {
 
     // The beginning of the alternative after the cursor's.
     pub fn next_alternative(&self, cursor: Cursor) -> Cursor
-        ensures { λ r. ⌜ position (now (self .entry)) r ≡ gone-into (alternative-of (position (now (self .entry)) cursor) + 1) (position (now (self .entry)) cursor) ⌝ }
+        ensures place { λ r. ⌜ position (now (self .entry)) r ≡ gone-into (alternative-of (position (now (self .entry)) cursor) + 1) (position (now (self .entry)) cursor) ⌝ }
+        ensures left { λ r. ⌜ left-at (now (self .entry)) r ≡ left-into (alternative-of (position (now (self .entry)) cursor) + 1) (left-at (now (self .entry)) cursor) ⌝ }
     {
         let k = cursor.alternative() + 1;
         self.into_alternative(cursor, k)
@@ -201,6 +205,7 @@ impl Program {
     // How many steps of the text stand before a cursor: the ordinal of the step that is next there.
     pub fn ordinal(&self, cursor: Cursor) -> usize
         ensures count { λ r. ⌜ r ≡ steps-before (now (self .entry)) cursor ⌝ }
+        ensures left { λ r. ⌜ r + length (steps-among (left-at (now (self .entry)) cursor .here)) ≡ length (body-steps (tree (now (self .entry)))) ⌝ }
         ensures names { λ r. ⌜ ((s : Step) → coming (what-comes (position (now (self .entry)) cursor)) ≡ Some s → nth (body-steps (tree (now (self .entry)))) r ≡ Some s) ⌝ }
     {
         let mut steps = 0;
@@ -214,8 +219,6 @@ impl Program {
 }
 
 // The commands of every program are those of the text of its tree.
-pub fn programs_spell_their_trees() -> u8
+pub fn programs_spell_their_trees()
     ensures { λ _. ⌜ Spells ⌝ }
-{
-    0
-}
+{}

@@ -20,57 +20,41 @@ pub trait Actions {
 }
 
 // Sorting is a stable sort.
-pub fn sorting_sorts<R>() -> u8
+pub fn sorting_sorts<R>()
     ensures { λ _. ⌜ Sorting-sorts R ⌝ }
-{
-    0
-}
+{}
 
 // Sorting by rank is a stable sort by rank.
-pub fn sorting_by_rank_sorts<R>() -> u8
+pub fn sorting_by_rank_sorts<R>()
     ensures { λ _. ⌜ Sorting-by-rank-sorts R ⌝ }
-{
-    0
-}
+{}
 
 // There is one serial order.
-pub fn serial_order_is_one<R>() -> u8
+pub fn serial_order_is_one<R>()
     ensures { λ _. ⌜ One-serial-order R ⌝ }
-{
-    0
-}
+{}
 
 // A log in which records in the wrong order never conflict replays the same when it is sorted.
-pub fn sorting_replays<A: Actions, R>() -> u8
+pub fn sorting_replays<A: Actions, R>()
     ensures { λ _. ⌜ Sorting-replays (A·Actions .means) (A·Actions .good) R ⌝ }
-{
-    0
-}
+{}
 
 // The same of the serial order by rank.
-pub fn sorting_by_rank_replays<A: Actions, R>() -> u8
+pub fn sorting_by_rank_replays<A: Actions, R>()
     ensures { λ _. ⌜ Sorting-by-rank-replays (A·Actions .means) (A·Actions .good) R ⌝ }
-{
-    0
-}
+{}
 
 // Records of low rank can be taken to the front.
-pub fn low_ones_first_replays<A: Actions, R>() -> u8
+pub fn low_ones_first_replays<A: Actions, R>()
     ensures { λ _. ⌜ Low-ones-first-replays (A·Actions .means) (A·Actions .good) R ⌝ }
-{
-    0
-}
+{}
 
 // A record that conflicts with nothing after it can be taken back.
-pub fn taking_back_replays<A: Actions, R>() -> u8
+pub fn taking_back_replays<A: Actions, R>()
     ensures { λ _. ⌜ Taking-back-replays (A·Actions .means) (A·Actions .good) R ⌝ }
-{
-    0
-}
+{}
 
 // An account worked through: the laws can be met, and the theorems' premises are needed.
-pub fn worked_account() -> u8
+pub fn worked_account()
     ensures { λ _. ⌜ Worked-account ⌝ }
-{
-    0
-}
+{}

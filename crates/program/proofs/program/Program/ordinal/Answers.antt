@@ -8,7 +8,7 @@ use Rattle.program.specs.Refusals.{step-count}
 use Rattle.program.specs.Grammar.{body-steps}
 use Rattle.program.specs.Places.{program-commands, nth, tree}
 use Rattle.program.proofs.Counts.{count-few}
-use Rattle.program.proofs.Cursors.{one-more-step, up-to, ordinal-names}
+use Rattle.program.proofs.Cursors.{one-more-step, up-to, ordinal-names, steps-left}
 use Rattle.program.proofs.Limits.{count-steps}
 use Rattle.program.proofs.program.Program.ordinal.Needs as need
 use Rattle.program.proofs.program.Program.ordinal.Needs.{then-is-step, else-is-step}
@@ -31,5 +31,6 @@ returns c =
     let count = c .loop-place .inv ∙ ap step-count end ∙ sym (count-steps (take (c .args .cursor .at) (program-commands p))) in
     record {
       count = count;
+      left = omega (arith, count, steps-left p (c .args .cursor .at));
       names = λ s e. ap (nth (body-steps (tree p))) count ∙ ordinal-names p (c .args .cursor .at) (c .args .cursor .choices) (c .args .cursor .alternative) s e;
     }
