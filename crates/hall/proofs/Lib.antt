@@ -1,0 +1,4 @@
+pub mod Any
+pub mod Bridges
+pub mod Maps
+pub mod Seeks
