@@ -8,7 +8,6 @@ use lib.ListN.{length, getD}
 use Rattle.std.specs.declared.option.Option.{Option}
 use Rattle.std.specs.declared.option.Option.the-variants.{Some, None}
 use Rattle.std.specs.shelf.Lists.{All}
-use Rattle.activity.specs.declared.Activity.{Activity}
 use Rattle.station.specs.Meaning.{Meaning}
 use Rattle.program.specs.declared.command.Kind.{Kind}
 use Rattle.program.specs.declared.command.Kind.the-variants.{Compensatable, Pivot, Retriable}
@@ -26,11 +25,10 @@ use Rattle.protocol.specs.declared.standing.Aim.{Aim}
 use Rattle.protocol.specs.declared.standing.Aim.the-variants.{End}
 use Rattle.protocol.specs.declared.standing.Direction.{Direction}
 use Rattle.protocol.specs.declared.standing.Standing.the-variants.{Running, Withdrawing, PastPivot}
-use Rattle.protocol.specs.Hall.{Process, Hall, find, changed, stand, with-processes, answered, with-program, with-process}
+use Rattle.protocol.specs.Hall.{Process, Hall, find, changed, stand, with-processes, with-program, with-process}
 use Rattle.protocol.specs.Relation.{In, Steps}
 use Rattle.protocol.specs.Call.{Call, IsProgram, loading, installing, opening, stepping, cancelling}
 use Rattle.protocol.specs.Log.{committed-records}
-use Rattle.protocol.specs.CallFunction.{outcome, Scan, scan-outcome}
 use Rattle.protocol.specs.Letters.{call-of, written}
 
 module _ {S : Type 0} (M : Meaning S) where

@@ -18,9 +18,7 @@ use Rattle.station.specs.Meaning.{Meaning}
 use Rattle.program.specs.Positions.{Position, alternative-of, into}
 use Rattle.protocol.specs.Ahead.{Next, nothing, plain, crossing, next}
 use Rattle.protocol.specs.Log.{Split, rejoined, removed, own, from-pivot, committed-under}
-use Rattle.protocol.specs.Hall.{Process, Hall, without, changed, stand, move, with-processes, beginning, past-pivot, record-of, standing-after, failed, answered}
-use Rattle.protocol.specs.StepFunction.{by-standing}
-use Rattle.protocol.specs.declared.answer.Answer.the-variants.{Stepped}
+use Rattle.protocol.specs.Hall.{Process, Hall, without, changed, stand, move, with-processes, beginning, past-pivot, record-of, standing-after, failed}
 
 -- x stands in the list
 abbrev pub In : {X : Type 0} → X → List X → Type 0
