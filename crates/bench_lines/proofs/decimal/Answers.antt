@@ -2,16 +2,16 @@ use Rattle.std.proofs.Common.{sym, ◌∙◌, arith}
 use Rattle.bench_lines.proofs.Loops.{digits_more, digits_stop, digits_end}
 use Rattle.bench_lines.proofs.decimal.Goals as goal
 
-pub returns-in-err-value : goal.returns-in-err-value
-returns-in-err-value c = rw c.from-residual.ensures (record {
-  value = sym (digits_stop c.args.limit c.args.word.now c.loop-b.b-index c.loop-b.value (omega arith) (sym c.in-err-value.ensures.value)) ∙ c.loop-b.invariant.1;
+pub returns-in_err-value : goal.returns-in_err-value
+returns-in_err-value c = rw c.from_residual.ensures (record {
+  value = sym (digits_stop c.args.limit c.args.word.now c.loop-b.b-index c.loop-b.value (omega arith) (sym c.in_err-value.ensures.value)) ∙ c.loop-b.invariant.1;
   bound = tt;
 })
 
 pub loop-b-preserved : goal.loop-b-preserved
 loop-b-preserved c = (
-  c.in-ok-value.ensures.bound,
-  digits_more c.args.limit c.args.word.now c.loop-b.b-index c.loop-b.value c.in-ok-value.value (omega arith) (sym c.in-ok-value.ensures.value)
+  c.in_ok-value.ensures.bound,
+  digits_more c.args.limit c.args.word.now c.loop-b.b-index c.loop-b.value c.in_ok-value.value (omega arith) (sym c.in_ok-value.ensures.value)
       ∙ c.loop-b.invariant.1,
 )
 

@@ -4,7 +4,7 @@ use Rattle.notation.specs.declared.decoding.Taken.{Taken}
 use Rattle.notation.specs.declared.decoding.Taken.TheVariants.{Passed, Waits, Gives, Wrong}
 use Rattle.notation.proofs.Reading.{front_none, front_more, one_more, at_end}
 use Rattle.notation.proofs.decoding.decode.Goals as goal
-use Rattle.notation.proofs.decoding.decode.Goals.{in-Passed, in-Waits, in-Gives+else-is-err}
+use Rattle.notation.proofs.decoding.decode.Goals.{in-Passed, in-Waits, in-Gives+else-is_err}
 
 pub loop-i-init : goal.loop-i-init
 loop-i-init c = (tt, ap (λ f. with_front f (bytes_from 0 None c.args.line.now)) c.new-bytes.ensures.items ∙ front_none _)
@@ -26,10 +26,10 @@ loop-i-preserved c =
         subst Low (sym w.waiting-is) w.in-Waits.ensures.low,
         (λ k. with_front (vec_items (w.bytes-is k)) (rest (w.waiting-is k))) ∙ more (Waits w.in-Waits.digit) w.in-Waits.ensures.is,
       )
-      | in-Gives+else-is-err w ↦ (
+      | in-Gives+else-is_err w ↦ (
         subst Low (sym w.waiting-is) tt,
         (λ k. with_front (vec_items (w.bytes-is k)) (rest (w.waiting-is k)))
-            ∙ ap (λ f. with_front f (rest None)) (w.push.ensures.items ∙ ap (λ t. cond t (front ++ w.in-Gives.byte ∷ []) front) w.if-is-err.ensures.negation)
+            ∙ ap (λ f. with_front f (rest None)) (w.push.ensures.items ∙ ap (λ t. cond t (front ++ w.in-Gives.byte ∷ []) front) w.if-is_err.ensures.negation)
             ∙ front_more front (w.in-Gives.byte ∷ []) (rest None)
             ∙ more (Gives w.in-Gives.byte) w.in-Gives.ensures.is,
       )

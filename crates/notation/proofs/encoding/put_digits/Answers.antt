@@ -8,4 +8,4 @@ one_then_one a b c x y u v e f g h = g ∙ (λ i. e i ++ h i ∷ []) ∙ append_
 pub returns : goal.returns
 returns c =
     one_then_one (string_bytes c.args.out.now) (string_bytes c.put.new.out) _ (hex (c.args.byte / 16)) (hex (c.args.byte % 16)) c.hex.result c.hex-2.result
-    c.in-ok-put.ensures c.hex.ensures c.in-ok-put-2.ensures c.hex-2.ensures
+    c.in_ok-put.ensures c.hex.ensures c.in_ok-put-2.ensures c.hex-2.ensures

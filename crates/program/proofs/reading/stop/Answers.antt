@@ -3,7 +3,11 @@ use Rattle.program.specs.declared.command.Command.TheVariants.{Stop}
 use Rattle.program.specs.Grammar.{finish, Yielded}
 use Rattle.program.proofs.reading.stop.Goals as goal
 
-pub invariant-of-result : goal.invariant-of-result
-invariant-of-result c =
+pub invariant_of-result : goal.invariant_of-result
+invariant_of-result c =
     let first : take 1 c.blank.result.now ≡ Stop ∷ [] = ap (take 1) c.blank.ensures in
-    (ap length c.blank.ensures, (lit≤ tt, (∣ subst Yielded (sym first) (finish, refl, record { spelled = refl; short = lit≤ tt; few = lit≤ tt; shallow = lit≤ tt }) ∣₁, tt)))
+    record {
+      long = ap length c.blank.ensures;
+      room = lit≤ tt;
+      yielded = ∣ subst Yielded (sym first) (finish, refl, record { spelled = refl; short = lit≤ tt; few = lit≤ tt; shallow = lit≤ tt }) ∣₁;
+    }

@@ -8,6 +8,6 @@ use Rattle.hall.proofs.tables.Tables.commit.Goals as goal
 pub returns-in-None : goal.returns-in-None
 returns-in-None g c =
     let h = c.args.self.now in
-    let long : length c.number-records.new.log ≡ h.log.len = c.number-records.auto.log ∙ c.as-mut-slice.ensures.len in
-    let there = rw c.as-mut-slice.ensures.value at c.number-records.ensures in
-    commits_is (model g.S.Station.view h) (seen h.programs c.args.p) _ (model g.S.Station.view c.leave.new.self) _ (blocks_commit g.S.Station.meaning.conflict h.log.items (seen h.programs c.args.p)) nobody c.in-None.ensures (with_items_is h.log c.number-records.new.log long ∙ there) c.leave.ensures
+    let long : length c.number_records.new.log ≡ h.log.len = c.number_records.auto.log ∙ c.as_mut_slice.ensures.len in
+    let there = rw c.as_mut_slice.ensures.value at c.number_records.ensures in
+    commits_is (model g.S.Station.view h) (seen h.programs c.args.p) _ (model g.S.Station.view c.leave.new.self) _ (blocks_commit g.S.Station.meaning.conflict h.log.items (seen h.programs c.args.p)) nobody c.in-None.ensures (with_items_is h.log c.number_records.new.log long ∙ there) c.leave.ensures

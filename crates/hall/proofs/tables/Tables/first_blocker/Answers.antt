@@ -9,7 +9,7 @@ loop-i-preserved g c =
     let h = c.args.self.now in
     let within : c.loop-i.i < length h.processes.items = omega (arith, h.processes.ok.0) in
     let q = c.index-q.result.now in
-    let test = c.stops.ensures ∙ ap (λ l. blocks g.S.Station.meaning.conflict l c.args.c q.start q.standing) c.as-slice.ensures.value in
+    let test = c.stops.ensures ∙ ap (λ l. blocks g.S.Station.meaning.conflict l c.args.c q.start q.standing) c.as_slice.ensures.value in
     least_more (λ q. blocks g.S.Station.meaning.conflict h.log.items c.args.c q.start q.standing) h.processes.items _ _ _ c.loop-i.invariant q _ _ within c.index-q.ensures test c.lowest-best.ensures
 
 pub returns : goal.returns

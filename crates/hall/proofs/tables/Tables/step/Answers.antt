@@ -17,12 +17,12 @@ pub go-requires : goal.go-requires
 go-requires g c =
     let h = c.args.self.now in
     let p = c.in-Some.entry.1 in
-    let room = room_go (model g.S.Station.view h) c.requires.held c.args.start (seen h.programs p) c.in-Some.ensures.value c.in-default-Plain.activity (onward (here h.programs p)) c.in-default-Plain.ensures in
+    let room = room_go (model g.S.Station.view h) c.requires.held c.args.start (seen h.programs p) c.in-Some.ensures.value c.in_default-Plain.activity (onward (here h.programs p)) c.in_default-Plain.ensures in
     record { within = search rules; at = search rules; rising = rising (model g.S.Station.view h) c.requires.held; room = omega (arith, room, h.log.ok.0) }
 
 pub pivot-requires : goal.pivot-requires
 pivot-requires g c =
     let h = c.args.self.now in
     let p = c.in-Some.entry.1 in
-    let room = room_cross (model g.S.Station.view h) c.requires.held c.args.start (seen h.programs p) c.in-Some.ensures.value c.in-default-Pivot.activity (onward (here h.programs p)) c.in-default-Pivot.ensures in
+    let room = room_cross (model g.S.Station.view h) c.requires.held c.args.start (seen h.programs p) c.in-Some.ensures.value c.in_default-Pivot.activity (onward (here h.programs p)) c.in_default-Pivot.ensures in
     record { within = search rules; at = search rules; rising = rising (model g.S.Station.view h) c.requires.held; room = omega (arith, room, h.log.ok.0) }

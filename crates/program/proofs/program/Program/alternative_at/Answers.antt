@@ -11,11 +11,11 @@ loop-turn-init c =
     let all : c.args.k - 0 ≡ c.args.k = omega arith in
     (ap (alternative first) all, omega (arith, ap (reached first) all), omega arith, omega arith, ap (λ j. skipped j text) all)
 
-pub returns-then-starts-row : goal.returns-then-starts-row
-returns-then-starts-row c =
+pub returns-then-starts_row : goal.returns-then-starts_row
+returns-then-starts_row c =
     let xs = drop c.loop-turn.place (program_commands c.args.self.now) in
     let j = c.args.k - c.loop-turn.turn in
-    let starts = sym c.if-starts-row.ensures in
+    let starts = sym c.if-starts_row.ensures in
     record {
       there = row_stays xs j starts ∙ c.loop-turn.invariant.0;
       count = omega (arith, row_reached xs j starts, c.loop-turn.invariant.1);
@@ -28,14 +28,14 @@ loop-turn-preserved c =
     let p = c.args.self.now in
     let xs = drop c.loop-turn.place (program_commands p) in
     let j = c.args.k - (c.loop-turn.turn + 1) in
-    let goes = sym c.if-starts-row.ensures in
+    let goes = sym c.if-starts_row.ensures in
     let one : suc j ≡ c.args.k - c.loop-turn.turn = omega arith in
-    let later = c.after-bar-place.ensures.later (before_end p c.loop-turn.place goes) in (
-      ap (λ ys. alternative (choices_at ys) j) c.after-bar-place.ensures.there ∙ body_turns xs j goes ∙ ap (alternative (choices_at xs)) one ∙ c.loop-turn.invariant.0,
-      omega (arith, ap (λ ys. reached (choices_at ys) j) c.after-bar-place.ensures.there, body_reached xs j goes, ap (reached (choices_at xs)) one, c.loop-turn.invariant.1),
+    let later = c.after_bar-place.ensures.later (before_end p c.loop-turn.place goes) in (
+      ap (λ ys. alternative (choices_at ys) j) c.after_bar-place.ensures.there ∙ body_turns xs j goes ∙ ap (alternative (choices_at xs)) one ∙ c.loop-turn.invariant.0,
+      omega (arith, ap (λ ys. reached (choices_at ys) j) c.after_bar-place.ensures.there, body_reached xs j goes, ap (reached (choices_at xs)) one, c.loop-turn.invariant.1),
       omega (arith, later.0, c.loop-turn.invariant.2),
       omega (arith, later.0, later.1, c.loop-turn.invariant.2),
-      ap (skipped j) c.after-bar-place.ensures.there ∙ body_skipped xs j goes ∙ ap (λ n. skipped n xs) one ∙ c.loop-turn.invariant.4,
+      ap (skipped j) c.after_bar-place.ensures.there ∙ body_skipped xs j goes ∙ ap (λ n. skipped n xs) one ∙ c.loop-turn.invariant.4,
     )
 
 pub returns : goal.returns

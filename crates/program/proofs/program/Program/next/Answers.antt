@@ -8,4 +8,4 @@ returns-in-None c = at_end (program_commands c.args.self.now) c.args.cursor.at c
 
 pub returns-in-Some : goal.returns-in-Some
 returns-in-Some c =
-    c.step-for.ensures ∙ comes_here c.in-Some.command _ c.args.cursor.choices (program_commands c.args.self.now) c.args.cursor.at c.args.cursor.alternative (some_first _ c.in-Some.command c.in-Some.ensures.first)
+    c.step_for.ensures ∙ comes_here c.in-Some.command _ c.args.cursor.choices (program_commands c.args.self.now) c.args.cursor.at c.args.cursor.alternative (some_first _ c.in-Some.command c.in-Some.ensures.first)

@@ -2,7 +2,7 @@ use Rattle.std.proofs.Common.{sym, ap, ◌∙◌, arith}
 use Rattle.program.specs.Places.{program_commands, position, placed, left_at, left_in, left_after}
 use Rattle.program.proofs.Cursors.{none_there, at_end, stays, plain_on, crossing_on, plain_left, crossing_left}
 use Rattle.program.proofs.program.Program.onward.Goals as goal
-use Rattle.program.proofs.program.Program.onward.Goals.{in-None, in-Some+in-Pivot, in-Some+in-default}
+use Rattle.program.proofs.program.Program.onward.Goals.{in-None, in-Some+in-Pivot, in-Some+in_default}
 
 pub returns-then-cursor-self : goal.returns-then-cursor-self
 returns-then-cursor-self c =
@@ -32,9 +32,9 @@ returns c =
             place = ap (λ r. placed cs r.0 r.1.0 r.1.1.0) w.result-is ∙ crossing_on cs at choices k _ w.in-Some.ensures w.in-Pivot.is;
             left = ap (λ r. left_in cs r.0 r.1.0) w.result-is ∙ crossing_left cs at choices _ _ w.in-Some.ensures w.in-Pivot.is;
           }
-      | in-Some+in-default w ↦
+      | in-Some+in_default w ↦
           record {
-            place = ap (λ r. placed cs r.0 r.1.0 r.1.1.0) w.result-is ∙ plain_on p at choices k _ w.in-Some.ensures w.in-default.not-Pivot;
-            left = ap (λ r. left_in cs r.0 r.1.0) w.result-is ∙ plain_left cs at choices _ _ w.in-Some.ensures w.in-default.not-Pivot;
+            place = ap (λ r. placed cs r.0 r.1.0 r.1.1.0) w.result-is ∙ plain_on p at choices k _ w.in-Some.ensures w.in_default.not-Pivot;
+            left = ap (λ r. left_in cs r.0 r.1.0) w.result-is ∙ plain_left cs at choices _ _ w.in-Some.ensures w.in_default.not-Pivot;
           }
     ]

@@ -6,17 +6,17 @@ use Rattle.program.proofs.Counts.{count_few}
 use Rattle.program.proofs.Cursors.{one_more_step, up_to, ordinal_names, steps_left}
 use Rattle.program.proofs.Limits.{count_steps}
 use Rattle.program.proofs.program.Program.ordinal.Goals as goal
-use Rattle.program.proofs.program.Program.ordinal.Goals.{then-is-step, else-is-step}
+use Rattle.program.proofs.program.Program.ordinal.Goals.{then-is_step, else-is_step}
 
-pub overflow-add-steps : goal.overflow-add-steps
-overflow-add-steps c = search (rules, count_few c.loop-place.place (program_commands c.args.self.now), c.loop-place.invariant, c.min-place-end.ensures, c.args.self.now.room)
+pub overflow_add-steps : goal.overflow_add-steps
+overflow_add-steps c = search (rules, count_few c.loop-place.place (program_commands c.args.self.now), c.loop-place.invariant, c.min-place-end.ensures, c.args.self.now.room)
 
 pub loop-place-preserved : goal.loop-place-preserved
 loop-place-preserved c =
     let before = c.loop-place.invariant in
-    elim c.if-is-step.branch [
-      | then-is-step w ↦ w.steps-is ∙ (λ i. before i + w.if-is-step.ensures i) ∙ sym (one_more_step c.args.self.now c.loop-place.place _ (omega arith))
-      | else-is-step w ↦ w.steps-is ∙ sym (add-zero c.loop-place.steps) ∙ (λ i. before i + w.if-is-step.ensures i) ∙ sym (one_more_step c.args.self.now c.loop-place.place _ (omega arith))
+    elim c.if-is_step.branch [
+      | then-is_step w ↦ w.steps-is ∙ (λ i. before i + w.if-is_step.ensures i) ∙ sym (one_more_step c.args.self.now c.loop-place.place _ (omega arith))
+      | else-is_step w ↦ w.steps-is ∙ sym (add-zero c.loop-place.steps) ∙ (λ i. before i + w.if-is_step.ensures i) ∙ sym (one_more_step c.args.self.now c.loop-place.place _ (omega arith))
     ]
 
 pub returns : goal.returns

@@ -14,8 +14,8 @@ pub push-requires : goal.push-requires
 push-requires c =
     let told = c.in-Some-C.ensures in
     let sound = c.loop-self.invariant.0.sound in
-    let activity = c.in-ok-activity.activity in
-    let fit = step_fits c.loop-self.self sound (C activity) activity refl refl refl (omega (arith, told.1)) c.in-ok-activity.ensures in
+    let activity = c.in_ok-activity.activity in
+    let fit = step_fits c.loop-self.self sound (C activity) activity refl refl refl (omega (arith, told.1)) c.in_ok-activity.ensures in
     record { sound = sound; here = fit.0; within = fit.1 }
 
 pub loop-self-preserved : goal.loop-self-preserved
@@ -23,5 +23,5 @@ loop-self-preserved c =
     let inv = c.loop-self.invariant in
     let p = c.push.ensures in (
       moved_on _ _ _ _ inv.0 p,
-      body_goes_on c.push.new.self c.args.depth (pushed_context _ _ _ p ∙ inv.1.on_c c.in-ok-activity.activity),
+      body_goes_on c.push.new.self c.args.depth (pushed_context _ _ _ p ∙ inv.1.on_c c.in_ok-activity.activity),
     )

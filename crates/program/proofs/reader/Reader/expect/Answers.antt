@@ -4,7 +4,7 @@ use Rattle.program.specs.Reads.{byte_at}
 use Rattle.program.proofs.Places.{width}
 use Rattle.program.proofs.Parts.{mark_fits, pushed_context}
 use Rattle.program.proofs.reader.Reader.expect.Goals as goal
-use Rattle.program.proofs.reader.Reader.expect.Goals.{in-default-via-in-Some+else-b-letter, in-default-via-in-None·}
+use Rattle.program.proofs.reader.Reader.expect.Goals.{in_default-via-in-Some+else-b-letter, in_default-via-in_default}
 
 pub push-requires : goal.push-requires
 push-requires c =
@@ -19,9 +19,9 @@ unexpected-requires c = record {
     c.args.m,
     record {
       next = c.requires.next;
-      other = λ here is. elim c.in-default.branch [
-        | in-default-via-in-Some+else-b-letter w ↦ w.if-b-letter.false (w.in-Some.ensures.1 ∙ is ∙ sym w.letter.ensures)
-        | in-default-via-in-None· w ↦ search rules
+      other = λ here is. elim c.in_default.branch [
+        | in_default-via-in-Some+else-b-letter w ↦ w.if-b-letter.false (w.in-Some.ensures.1 ∙ is ∙ sym w.letter.ensures)
+        | in_default-via-in_default w ↦ search rules
       ];
     },
   );

@@ -9,7 +9,7 @@ use Rattle.program.proofs.Places.{somewhere, too_deep}
 use Rattle.program.proofs.Parts.{level, low, at_open}
 use Rattle.program.proofs.Trees.{level_of}
 use Rattle.program.proofs.reader.Reader.open.Goals as goal
-use Rattle.program.proofs.reader.Reader.open.Goals.{in-default-via-in-Some-eq91+else-depth-ge-MAX-DEPTH, in-default-via-in-Some·+in-default·, in-default-via-in-None·}
+use Rattle.program.proofs.reader.Reader.open.Goals.{in_default-via-in-Some-eq91+else-depth-ge-MAX_DEPTH, in_default-via-in-Some+in_default, in_default-via-in_default}
 
 leads : (r : Reader) (n : ℕ) → context r ≡ at_pivot n → go (context r) Open ≡ nowhere → ⊥
 leads r n e z =
@@ -26,10 +26,10 @@ expect-requires c = record {
   next = record {
     plain = refl;
     leads = leads c.args.self.now c.args.depth c.requires.next;
-    low = λ h is. elim c.in-default.branch [
-      | in-default-via-in-Some-eq91+else-depth-ge-MAX-DEPTH w ↦ omega (arith, here c.args.self.now c.args.depth c.requires.sound c.requires.next)
-      | in-default-via-in-Some·+in-default· w ↦ search rules
-      | in-default-via-in-None· w ↦ search rules
+    low = λ h is. elim c.in_default.branch [
+      | in_default-via-in-Some-eq91+else-depth-ge-MAX_DEPTH w ↦ omega (arith, here c.args.self.now c.args.depth c.requires.sound c.requires.next)
+      | in_default-via-in-Some+in_default w ↦ search rules
+      | in_default-via-in_default w ↦ search rules
     ];
     only = λ h. at_open c.args.self.now c.args.depth c.requires.next;
   };

@@ -2,11 +2,11 @@ use Rattle.std.proofs.Common.{◌≡◌, ◌+◌, ◌<◌, ◌≤◌, ◌∷◌,
 use Rattle.program.proofs.Places.{too_many, cut_off, four, spelled_operands}
 use Rattle.program.proofs.reader.Reader.operands.Goals as goal
 
-pub returns-then-self-eq-MAX-STEPS : goal.returns-then-self-eq-MAX-STEPS
-returns-then-self-eq-MAX-STEPS c = too_many c.args.self.now c.requires.sound c.requires.next.0 c.requires.next.1 (omega arith)
+pub returns-then-self-eq-MAX_STEPS : goal.returns-then-self-eq-MAX_STEPS
+returns-then-self-eq-MAX_STEPS c = too_many c.args.self.now c.requires.sound c.requires.next.0 c.requires.next.1 (omega arith)
 
-pub returns-then-self-place-lt-STEP-BYTES : goal.returns-then-self-place-lt-STEP-BYTES
-returns-then-self-place-lt-STEP-BYTES c = cut_off c.args.self.now c.requires.sound c.requires.next.0 c.requires.next.1 (omega arith) (omega arith)
+pub returns-then-self-place-lt-STEP_BYTES : goal.returns-then-self-place-lt-STEP_BYTES
+returns-then-self-place-lt-STEP_BYTES c = cut_off c.args.self.now c.requires.sound c.requires.next.0 c.requires.next.1 (omega arith) (omega arith)
 
 pub returns : goal.returns
 returns c = (
