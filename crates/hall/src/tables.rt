@@ -4,7 +4,6 @@ ghost use Rattle.std.specs.Prelude.{◌≡◌, ◌≤◌, length, vec_capacity};
 use crate::process::Process;
 use program::Program;
 use protocol::Record;
-use station::Station;
 
 mod blockers;
 mod finds;
@@ -13,7 +12,7 @@ mod programs;
 mod rules;
 mod steps;
 
-pub struct Tables<S: Station> {
+pub struct Tables<S> {
     station: S,
     log: Vec<Record>,
     processes: Vec<Process>,

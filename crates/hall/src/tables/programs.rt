@@ -40,7 +40,7 @@ fn item_of(step: Option<Step>) -> Item
 
 impl<S: Station> Tables<S> {
     // The program at a place, if there is one.
-    fn program_at(&self, place: u16) -> Option<&Program>
+    fn program_at(&self, place: u8) -> Option<&Program>
         ensures { option_map (λ x. x.now) result ≡ slice_index_or self.now.programs place None }
     {
         let place = place as usize;
@@ -52,7 +52,7 @@ impl<S: Station> Tables<S> {
     }
 
     // Where a process of the place begins.
-    pub(super) fn first(&self, place: u16) -> Cursor
+    pub(super) fn first(&self, place: u8) -> Cursor
         ensures { position_in (slice_index_or self.now.programs place None) result ≡ beginning (model S.Station.view self.now).programs place }
     {
         Cursor::start()

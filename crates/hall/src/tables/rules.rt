@@ -1,7 +1,7 @@
 // The rules of a step.
 ghost use Rattle.std.specs.Prelude.{◌≡◌, ◌+◌, ◌<◌, map, take, drop, vec_len, slice_index_or};
 ghost use Rattle.serial.specs.Sorts.{Pairwise};
-ghost use Rattle.program.specs.Positions.{onward as led_on};
+ghost use Rattle.program.specs.Positions.{onward as led_on, alternative_of};
 ghost use Rattle.protocol.specs.declared.answer.Answer.TheVariants.{Stepped};
 ghost use Rattle.protocol.specs.Ahead.{nothing, plain, crossing};
 ghost use Rattle.protocol.specs.Log.{committed_under, returnable};
@@ -138,6 +138,7 @@ impl<S: Station> Tables<S> {
         requires within { i < vec_len self.old.processes }
         requires at { p ≡ slice_index_or self.old.processes.items i p }
         requires rising { Pairwise (λ a b. a.start < b.start) (model S.Station.view self.old).processes }
+        requires few { alternative_of (here self.old.programs p) < 255 }
         ensures { answered (model S.Station.view self.new) (Stepped result) ≡ backward S.Station.meaning (model S.Station.view self.old) (seen self.old.programs p) (with_nothing_left (model S.Station.view self.old) (seen self.old.programs p) p.standing) (returnable p.start self.old.log.items) }
     {
         match self.last_record(p.start) {
@@ -177,6 +178,7 @@ impl<S: Station> Tables<S> {
         requires within { i < vec_len self.old.processes }
         requires at { p ≡ slice_index_or self.old.processes.items i p }
         requires rising { Pairwise (λ a b. a.start < b.start) (model S.Station.view self.old).processes }
+        requires few { alternative_of (here self.old.programs p) < 255 }
         ensures { answered (model S.Station.view self.new) (Stepped result) ≡ with_nothing_left (model S.Station.view self.old) (seen self.old.programs p) p.standing }
     {
         match p.standing {
@@ -193,7 +195,7 @@ impl<S: Station> Tables<S> {
                 let k = self.alternative(p) + 1;
                 let to = self.next_alternative(p);
                 self.relocate(i, p, Standing::PastPivot(Direction::Forward), to);
-                Turn::Next(k)
+                Turn::Next(k as u8)
             }
         }
     }

@@ -1,10 +1,11 @@
 // A step: one match on the process's standing and what its program has next. And cancelling.
-ghost use Rattle.std.specs.Prelude.{◌≡◌};
+ghost use Rattle.std.specs.Prelude.{◌≡◌, ◌<◌, All};
+ghost use Rattle.program.specs.Positions.{alternative_of};
 ghost use Rattle.protocol.specs.Hall.{answered};
 ghost use Rattle.protocol.specs.Call.{stepping, cancelling};
 ghost use Rattle.protocol.specs.CallFunction.{outcome};
 ghost use Rattle.protocol.specs.Held.{Held};
-ghost use Rattle.hall.specs.Model.{model};
+ghost use Rattle.hall.specs.Model.{model, here};
 ghost use Rattle.hall.specs.Replies.{step_reply, cancel_reply};
 
 use super::Tables;
@@ -16,6 +17,7 @@ impl<S: Station> Tables<S> {
     // A step of the process of a start number.
     pub(crate) fn step(&mut self, start: u16) -> Result<Turn, Refusal>
         requires held { ∥ Held (model S.Station.view self.old) ∥₁ }
+        requires few { All (λ p. alternative_of (here self.old.programs p) < 255) self.old.processes.items }
         ensures { answered (model S.Station.view self.new) (step_reply result) ≡ outcome S.Station.meaning (model S.Station.view self.old) (stepping start) }
     {
         let Some(entry) = self.place(start) else {
