@@ -1,5 +1,5 @@
 -- The register keeps the laws.
-use Rattle.std.specs.Prelude.{◌≡◌, ℕ, ◌%◌, ◌<◌, Bool, true, false, not, ◌&&◌, ◌||◌, ◌⊎◌, List, [], ◌∷◌, length, is_some, Some, None, Option, ◌==◌, refl}
+use Rattle.std.specs.Prelude.{◌≡◌, ℕ, ◌%◌, ◌<◌, Bool, true, false, not, ◌&&◌, ◌||◌, ◌⊎◌, List, length, is_some, Some, None, Option, ◌==◌, refl}
 use Rattle.std.proofs.Common.{sym, ap, ◌∙◌, subst, inl, inr, ⊎_elim, arith, get_or-set_same, get_or-set_other, set-set}
 use Rattle.std.proofs.Math.Bridge.{le_prop}
 use Rattle.std.proofs.Math.Nat.{ℕ_set}
@@ -14,8 +14,8 @@ use Rattle.baggage.specs.declared.register.BagActivity.TheVariants.{Enter, Strik
 use Rattle.station.specs.Meaning.{Restores, Commutes, Symmetric, AlwaysPossible, Bounded, lifted}
 use Rattle.baggage.specs.Tabled.{matched, proper}
 use Rattle.baggage.specs.Row.{entry}
-use Rattle.baggage.specs.Register.{between, standing, number_of, with_stand, with_seal, with_report, entered, if_open, on_bag, off_bag, names, absent_bag, bag_of, with_bag, first_register, register_listing, register_row, register_meaning}
-use Rattle.station.specs.Part.{Swap, parts, outcome}
+use Rattle.baggage.specs.Register.{between, standing, number_of, with_stand, with_seal, with_report, entered, if_open, on_bag, names, absent_bag, bag_of, with_bag, register_listing, register_row, register_meaning}
+use Rattle.station.specs.Part.{Swap, parts}
 use Rattle.baggage.specs.Swaps as swaps
 use Rattle.baggage.specs.Tables.{every, at}
 use Rattle.baggage.specs.RowLaws as row

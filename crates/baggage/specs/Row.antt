@@ -1,5 +1,5 @@
 -- A station that is a row of cells: each activity works on the one cell that its parameter names.
-use Rattle.std.specs.Prelude.{◌≡◌, ℕ, zero, suc, Bool, true, false, cond, List, [], ◌∷◌, length, Some, None, Option, nat_lt}
+use Rattle.std.specs.Prelude.{ℕ, zero, suc, Bool, true, false, cond, List, [], ◌∷◌, length, Some, None, Option, nat_lt}
 use Rattle.station.specs.Meaning.{Meaning, lifted}
 use Rattle.baggage.specs.Tabled.{Listing, listed, matched}
 

@@ -3,9 +3,9 @@ use Rattle.std.specs.Prelude.{◌≡◌, ℕ, zero, suc, ◌<◌, ◌≤◌, Boo
 use Rattle.std.proofs.Common.{sym, ap, ◌∙◌, subst, ⊎_elim, arith}
 use Rattle.std.specs.List.{AllByRecursion as All}
 use Rattle.std.proofs.lemmas.Bool.{ltb-true, cases_eq}
-use Rattle.station.specs.Meaning.{Meaning, Restores, Commutes, Symmetric, AlwaysPossible, Bounded, lifted}
-use Rattle.station.specs.Part.{parts, outcome, Part, Apart, Swap, over, inside, back, swap_over, swap_apart, lifted_possible}
-use Rattle.baggage.specs.Tabled.{listed, matched, proper}
+use Rattle.station.specs.Meaning.{Restores, Commutes, Symmetric, AlwaysPossible, Bounded, lifted}
+use Rattle.station.specs.Part.{parts, outcome, Part, Swap, inside, back, swap_over, swap_apart, lifted_possible}
+use Rattle.baggage.specs.Tabled.{matched, proper}
 use Rattle.baggage.specs.Row.{Row, entry, performed_at, taken_back_at, in_row}
 use Rattle.baggage.specs.Tables.{of_listed}
 use Rattle.baggage.specs.Tables as tables

@@ -1,5 +1,5 @@
 -- A catalogue's table against its listing: one test over the whole table, and the rule that it gives at each number.
-use Rattle.std.specs.Prelude.{◌≡◌, ℕ, zero, suc, ◌+◌, ◌<◌, ◌≤◌, Bool, true, false, cond, not, ◌&&◌, ◌||◌, ◌⊎◌, List, [], ◌∷◌, Some, None, ◌==◌, nat_lt, slice_index_or, refl}
+use Rattle.std.specs.Prelude.{◌≡◌, ℕ, zero, suc, ◌+◌, ◌<◌, ◌≤◌, Bool, true, false, cond, ◌&&◌, List, [], ◌∷◌, Some, ◌==◌, nat_lt, slice_index_or, refl}
 use Rattle.std.proofs.Common.{ap, sym, subst, ◌∙◌, ⊎_elim, add-zero, zero-add, add-suc, suc-add, arith}
 use Rattle.std.proofs.lemmas.Bool.{and_parts, and_left, and_right, or_cases, or_from, eqb-true, ne_eqb, ltb-true, le-ltb, false≢true, cases_eq, cases_lt}
 use Rattle.std.specs.List.{AllByRecursion as All}

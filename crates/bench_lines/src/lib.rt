@@ -1,4 +1,6 @@
 // The lines that stationbench reads: their words, their numbers, and what is wrong with a bad one.
+#![tactic(auto)]
+
 ghost use Rattle.std.specs.Prelude.{◌≡◌, ◌^◌, ◌<◌, ◌≤◌, length, IfSome, IfOk};
 ghost use Rattle.std.specs.Str.{bytes_eq};
 ghost use Rattle.bench_lines.specs.Lines.{is_of, past, word_at, command_of, digit_onto, digits, number_at, end_at, performing, taking_back, conflicting, of_kinds, reading};

@@ -3,7 +3,7 @@ use Rattle.std.specs.Prelude.{ℕ, ◌+◌, Bool, true, false, cond, not, ◌&&�
 use Rattle.protocol.specs.declared.record.Record.{Record}
 use Rattle.protocol.specs.declared.standing.Standing.{Standing}
 use Rattle.protocol.specs.declared.standing.Aim.TheVariants.{Restart}
-use Rattle.protocol.specs.declared.standing.Standing.TheVariants.{Running, Withdrawing, PastPivot}
+use Rattle.protocol.specs.declared.standing.Standing.TheVariants.{Withdrawing}
 use Rattle.protocol.specs.Log.{any, owned, own}
 use Rattle.protocol.specs.Hall as protocol
 use Rattle.protocol.specs.Hall.{retreating, past_pivot, running, lower}

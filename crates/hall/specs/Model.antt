@@ -4,7 +4,7 @@ use Rattle.program.specs.declared.program.Program.{Program}
 use Rattle.program.specs.declared.cursor.Cursor.{Cursor}
 use Rattle.program.specs.Grammar.{Body, finish}
 use Rattle.program.specs.declared.command.Step.{Step}
-use Rattle.program.specs.Positions.{Position, outer, onward}
+use Rattle.program.specs.Positions.{Position, outer}
 use Rattle.program.specs.Places.{tree, position}
 use Rattle.protocol.specs.declared.record.Record.{Record}
 use Rattle.protocol.specs.Log.{Split}

@@ -1,4 +1,6 @@
 // The hall's tables, and what its steps do to them. Nothing here can be called from outside yet.
+#![tactic(auto)]
+
 mod log;
 mod process;
 mod tables;

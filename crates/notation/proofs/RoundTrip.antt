@@ -1,10 +1,8 @@
 -- Reading back what was written gives the same bytes.
-use Rattle.std.proofs.Common.{◌≡◌, ℕ, zero, suc, ◌+◌, ◌-◌, ◌*◌, ◌/◌, ◌%◌, ◌<◌, ◌≤◌, Bool, true, false, cond, ◌&&◌, ◌||◌, eqb, ltb, leb, List, [], ◌∷◌, ◌++◌, length, get_or, drop, Some, None, Ok, Err, Option, Result, sym, refl, ap, ◌∙◌, subst, append_assoc, append-nil, arith}
+use Rattle.std.proofs.Common.{◌≡◌, ℕ, suc, ◌+◌, ◌*◌, ◌/◌, ◌%◌, ◌<◌, Bool, true, false, cond, ◌&&◌, ◌||◌, eqb, List, [], ◌∷◌, ◌++◌, length, get_or, Some, None, Ok, sym, refl, ap, ◌∙◌, subst, append_assoc, append-nil, arith}
 use Rattle.std.proofs.lemmas.Bool.Decides.{nat_tests}
-use Rattle.notation.specs.declared.sign.Sign.TheVariants.{Blank, Command, Digit, Other}
-use Rattle.notation.specs.declared.decoding.Taken.{Taken}
-use Rattle.notation.specs.declared.decoding.Taken.TheVariants.{Passed, Waits, Gives, Wrong}
-use Rattle.notation.specs.Notation.{is_command, sign_of, hex, taken, taken_by, with_front, read_on, bytes_from, bytes_of, due_after, unit, gap, written_on, written}
+use Rattle.notation.specs.declared.sign.Sign.TheVariants.{Command, Digit}
+use Rattle.notation.specs.Notation.{is_command, sign_of, hex, taken_by, with_front, read_on, bytes_from, bytes_of, due_after, unit, gap, written_on, written}
 use Rattle.notation.proofs.Reading.{front_none, front_more}
 
 -- the line xs, wherever it begins and whatever follows it, stands for the bytes bs

@@ -1,5 +1,5 @@
 -- The written notation of program texts: what a line of characters stands for, and how bytes are written.
-use Rattle.std.specs.Prelude.{◌≡◌, ℕ, zero, suc, ◌+◌, ◌-◌, ◌*◌, ◌/◌, ◌%◌, ◌<◌, Bool, true, false, cond, ◌&&◌, ◌||◌, List, [], ◌∷◌, ◌++◌, length, Some, None, Ok, Err, Option, Result, ◌==◌, nat_le, nat_lt}
+use Rattle.std.specs.Prelude.{◌≡◌, ℕ, ◌+◌, ◌-◌, ◌*◌, ◌/◌, ◌%◌, ◌<◌, Bool, cond, ◌&&◌, ◌||◌, List, [], ◌∷◌, ◌++◌, length, Some, None, Ok, Err, Option, Result, ◌==◌, nat_le, nat_lt}
 use Rattle.notation.specs.declared.sign.Sign.{Sign}
 use Rattle.notation.specs.declared.sign.Sign.TheVariants.{Blank, Command, Digit, Other}
 use Rattle.notation.specs.declared.decoding.Taken.{Taken}

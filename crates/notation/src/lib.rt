@@ -1,5 +1,7 @@
 // The written notation of program texts, for people: command letters and marks stand for themselves,
 // every other byte is two hexadecimal digits (small letters), and blanks are ignored.
+#![tactic(auto)]
+
 mod decoding;
 mod encoding;
 mod sign;

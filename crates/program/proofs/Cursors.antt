@@ -1,5 +1,5 @@
 -- A cursor in a program, as a position in its tree.
-use Rattle.std.proofs.Common.{◌≡◌, ℕ, zero, suc, ◌+◌, ◌-◌, ◌<◌, ◌≤◌, min, Bool, true, false, List, [], ◌∷◌, ◌++◌, length, get_or, take, drop, Some, None, Option, sym, refl, ap, ◌∙◌, subst, append_assoc, append-nil, arith, length-append, take-append-drop, length-take-le, get_or-take}
+use Rattle.std.proofs.Common.{◌≡◌, ℕ, zero, suc, ◌+◌, ◌<◌, ◌≤◌, min, Bool, true, false, List, [], ◌∷◌, ◌++◌, length, get_or, take, drop, Some, None, Option, sym, refl, ap, ◌∙◌, arith, length-append, take-append-drop, length-take-le, get_or-take}
 use mathlib.Core.Bool.{Bool-set}
 use mathlib.Core.Logic.{∥∥₁_elim}
 use native.Mathlib.Decide.{dec_le}
@@ -11,11 +11,11 @@ use Rattle.program.specs.declared.program.Program.{Program}
 use Rattle.program.specs.declared.command.Step.{Step}
 use Rattle.program.specs.declared.command.Kind.{Kind}
 use Rattle.program.specs.declared.command.Kind.TheVariants.{Compensatable, Pivot, Retriable}
-use Rattle.program.specs.Grammar.{Body, finish, compensatable, pivot, Choices, row, or_else, row_commands, body_commands, choices_commands, text_commands, step, row_steps, body_steps, choices_steps, Yielded}
+use Rattle.program.specs.Grammar.{Choices, row, or_else, text_commands, step, body_steps}
 use Rattle.program.specs.Refusals.{weight, step_count}
-use Rattle.program.specs.Positions.{Rest, in_body, in_row, Position, outer, inner, alternative, reached, entered, Next, nothing, comes, next, coming, led, onward}
-use Rattle.program.specs.Places.{program_commands, row_at, body_at, opened_at, choices_at, further_at, rest_at, placed, tree, starts_row, skip, step_of, with_step, steps_among, nth, first, Spells, item_for, Left, left_in, left_past, left_after, unless_row, skipped}
-use Rattle.program.specs.Contexts.{Context, in_body_at, at_pivot, at_choice, in_row_at, closed, over, nowhere, go, goes, is_over}
+use Rattle.program.specs.Positions.{in_body, in_row, Position, outer, inner, alternative, reached, entered, Next, nothing, comes, next, coming, led, onward}
+use Rattle.program.specs.Places.{program_commands, row_at, body_at, opened_at, choices_at, rest_at, placed, tree, starts_row, skip, step_of, with_step, steps_among, nth, first, Spells, item_for, Left, left_in, left_past, left_after, unless_row, skipped}
+use Rattle.program.specs.Contexts.{Context, in_body_at, at_pivot, at_choice, in_row_at, closed, over, nowhere, goes, is_over}
 use Rattle.program.proofs.Trees.{goes_append, goes_nowhere, goes_whole, whole_goes}
 use Rattle.program.proofs.ReadBack.{text_back, text_steps, choices_row, choices_body}
 use Rattle.program.proofs.Counts.{count_more}

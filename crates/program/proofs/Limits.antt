@@ -1,10 +1,10 @@
 -- The limits on a row of commands are those on the tree that it spells.
-use Rattle.std.proofs.Common.{◌≡◌, ℕ, zero, suc, ◌+◌, ◌-◌, ◌≤◌, max, List, [], ◌∷◌, ◌++◌, length, sym, refl, ap, ◌∙◌, subst, append_assoc, arith}
+use Rattle.std.proofs.Common.{◌≡◌, ℕ, ◌+◌, ◌-◌, ◌≤◌, max, List, [], ◌∷◌, ◌++◌, length, sym, refl, ap, ◌∙◌, append_assoc, arith}
 use Rattle.activity.specs.declared.Activity.{Activity}
 use Rattle.program.specs.declared.command.Command.{Command}
 use Rattle.program.specs.declared.command.Command.TheVariants.{C, P, R, Open, Bar, Close, Stop}
 use Rattle.program.specs.Grammar.{Body, finish, compensatable, pivot, Choices, row, or_else, row_commands, body_commands, choices_commands, text_commands, bytes, body_steps, body_depth, choices_depth, Yields}
-use Rattle.program.specs.Refusals.{weight, step_count, open_after, peak, Within}
+use Rattle.program.specs.Refusals.{step_count, peak, Within}
 use Rattle.program.specs.Places.{steps_among}
 use Rattle.program.proofs.ReadBack.{text_steps}
 

@@ -1,16 +1,16 @@
 -- What can stand where, and what one part of the reader hands to the next.
-use Rattle.std.proofs.Common.{◌≡◌, ℕ, zero, suc, ◌+◌, ◌-◌, ◌*◌, ◌<◌, ◌≤◌, ◌⊎◌, List, [], ◌∷◌, ◌++◌, length, get_or, take, drop, sym, refl, ap, ◌∙◌, subst, ⊎_elim, add-one, arith}
+use Rattle.std.proofs.Common.{◌≡◌, ℕ, zero, suc, ◌+◌, ◌<◌, ◌≤◌, ◌⊎◌, [], ◌∷◌, ◌++◌, length, take, drop, sym, refl, ap, ◌∙◌, subst, ⊎_elim, add-one, arith}
 use Rattle.std.proofs.lemmas.List.{drop_more}
 use Rattle.activity.specs.declared.Activity.{Activity}
 use Rattle.program.specs.declared.command.Command.{Command}
 use Rattle.program.specs.declared.command.Command.TheVariants.{C, P, R, Open, Bar, Close, Stop}
 use Rattle.program.specs.declared.reader.Reader.{Reader}
-use Rattle.program.specs.Grammar.{mark, written, operands, bytes}
-use Rattle.program.specs.Refusals.{weight, step_count, Within, Whole, opened, open_after, peak}
-use Rattle.program.specs.Contexts.{Context, in_body_at, at_pivot, at_choice, in_row_at, closed, nowhere, over, end_mark, after_end, go, goes}
-use Rattle.program.specs.Reads.{text_of, commands_of, context, byte_at, Sound, Spelled, Pushed, StepNext, Only, MarkNext, Passed, Ready, BodyNext, RowNext, Moved}
+use Rattle.program.specs.Grammar.{mark, written, operands}
+use Rattle.program.specs.Refusals.{weight, Within, opened, open_after}
+use Rattle.program.specs.Contexts.{Context, in_body_at, at_pivot, at_choice, in_row_at, nowhere, end_mark, go, goes}
+use Rattle.program.specs.Reads.{text_of, commands_of, context, byte_at, Sound, Spelled, Pushed, StepNext, Only, MarkNext, Ready, BodyNext, RowNext, Moved}
 use Rattle.program.proofs.Trees.{goes_more, level_of, opened_level, body_ends}
-use Rattle.program.proofs.Counts.{count_more, opened_more, opened_peak, peak_more}
+use Rattle.program.proofs.Counts.{count_more, opened_peak, peak_more}
 
 pub only_body : (n x : ℕ) (c : Command) → mark c ≡ x → (x ≡ 67 → ⊥) → (x ≡ 80 → ⊥) → (x ≡ mark (end_mark n) → ⊥) → go (in_body_at n) c ≡ nowhere
 only_body n x (C s) e h k l = absurd (h (sym e))

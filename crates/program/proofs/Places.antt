@@ -1,5 +1,5 @@
 -- A reader between two commands: one command more, and a refusal at its place.
-use Rattle.std.proofs.Common.{◌≡◌, ℕ, zero, suc, ◌+◌, ◌-◌, ◌*◌, ◌/◌, ◌%◌, ◌<◌, ◌≤◌, List, [], ◌∷◌, ◌++◌, length, get_or, take, drop, set, sym, refl, ap, ◌∙◌, subst, arith, length-append, length-drop, length-set, take-append-drop, length-take-le, take-add}
+use Rattle.std.proofs.Common.{◌≡◌, ℕ, ◌+◌, ◌-◌, ◌*◌, ◌/◌, ◌%◌, ◌<◌, ◌≤◌, List, [], ◌∷◌, ◌++◌, length, get_or, take, drop, set, sym, refl, ap, ◌∙◌, subst, arith, length-append, length-drop, length-set, take-append-drop, length-take-le, take-add}
 use Rattle.std.proofs.lemmas.List.{take_all, take_more_set, drop_more, drop_all}
 use Rattle.program.specs.declared.command.Command.{Command}
 use Rattle.program.specs.declared.command.Command.TheVariants.{C, P, R, Open, Bar, Close, Stop}
@@ -8,13 +8,13 @@ use Rattle.program.specs.declared.refusal.Fault.TheVariants.{TooLong, Misplaced,
 use Rattle.program.specs.declared.reader.Reader.{Reader}
 use Rattle.program.specs.Grammar.{mark, written, operands, bytes, text_commands, Yields, Yielded}
 use Rattle.program.specs.Places.{body_at}
-use Rattle.program.specs.Refusals.{weight, step_count, Within, Whole, opened, open_after, peak, Begins, Stands, Reason, Stuck, Refused, number_of}
-use Rattle.program.specs.Contexts.{Context, in_body_at, nowhere, over, go, goes}
-use Rattle.program.specs.Reads.{text_of, commands_of, context, byte_at, Sound, Spelled, Pushed, StepNext, Only}
+use Rattle.program.specs.Refusals.{weight, step_count, Within, Whole, opened, Stands, Reason, Stuck, Refused, number_of}
+use Rattle.program.specs.Contexts.{Context, in_body_at, nowhere, over, go}
+use Rattle.program.specs.Reads.{text_of, commands_of, context, byte_at, Sound, Spelled, Pushed, StepNext}
 use Rattle.program.proofs.Trees.{goes_whole, goes_more, goes_begins, begins_goes, whole_goes}
 use Rattle.program.proofs.ReadBack.{text_back}
 use Rattle.program.proofs.Limits.{yields_of}
-use Rattle.program.proofs.Counts.{bytes_more, count_more, opened_more, opened_peak, peak_more}
+use Rattle.program.proofs.Counts.{bytes_more, count_more}
 
 pub width : (c : Command) → length (written c) ≡ 1 + 3 * weight c
 width (C s) = refl

@@ -1,5 +1,5 @@
 -- A text is read in one way only.
-use Rattle.std.proofs.Common.{◌≡◌, ℕ, zero, suc, ◌+◌, ◌-◌, ◌*◌, ◌/◌, ◌%◌, ◌<◌, ◌≤◌, Bool, true, false, cond, eqb, ◌⊎◌, List, [], ◌∷◌, ◌++◌, length, Some, None, Option, sym, refl, ap, ◌∙◌, subst, inl, inr, append_assoc, append-nil, arith, length-append}
+use Rattle.std.proofs.Common.{◌≡◌, ℕ, ◌+◌, ◌*◌, ◌/◌, ◌%◌, ◌<◌, ◌≤◌, cond, eqb, ◌⊎◌, List, [], ◌∷◌, ◌++◌, length, Some, None, Option, sym, refl, ap, ◌∙◌, subst, inl, inr, append_assoc, append-nil, arith, length-append}
 use Rattle.activity.specs.declared.Activity.{Activity}
 use Rattle.program.specs.declared.command.Command.{Command}
 use Rattle.program.specs.declared.command.Command.TheVariants.{C, P, R, Open, Bar, Close, Stop}
@@ -7,12 +7,12 @@ use Rattle.program.specs.declared.refusal.Fault.{Fault}
 use Rattle.program.specs.declared.refusal.Fault.TheVariants.{TooLong, Misplaced, CutOff, TooManySteps, TooDeep, Trailing}
 use Rattle.program.specs.declared.refusal.Refusal.{Refusal}
 use Rattle.program.specs.Grammar.{Body, mark, written, operands, bytes, Yields, text_commands}
-use Rattle.program.specs.Refusals.{weight, step_count, open_after, opened, peak, Within, Whole, Begins, Stands, Reason, Stuck, StuckSomewhere, Refused}
+use Rattle.program.specs.Refusals.{weight, step_count, open_after, opened, peak, Within, Whole, Begins, Reason, Stuck, StuckSomewhere, Refused}
 use Rattle.program.specs.Places.{body_at}
 use Rattle.program.specs.Outcome.{OutcomeBy}
-use Rattle.program.specs.Contexts.{Context, in_body_at, over, nowhere, go, goes}
-use Rattle.program.proofs.Trees.{goes_more, goes_append, whole_goes, begins_goes}
-use Rattle.program.proofs.Counts.{bytes_append, opened_peak, opened_more}
+use Rattle.program.specs.Contexts.{in_body_at, go}
+use Rattle.program.proofs.Trees.{goes_more, whole_goes, begins_goes}
+use Rattle.program.proofs.Counts.{opened_peak, opened_more}
 use Rattle.program.proofs.Places.{width}
 use Rattle.program.proofs.ReadBack.{text_back}
 use Rattle.program.proofs.Limits.{within_of}

@@ -1,10 +1,10 @@
 -- Skipping what is left of an alternative.
-use Rattle.std.proofs.Common.{◌≡◌, ℕ, zero, suc, ◌+◌, ◌-◌, ◌<◌, ◌≤◌, List, [], ◌∷◌, ◌++◌, length, get_or, take, drop, sym, refl, ap, ◌∙◌, subst, append_assoc, add-one, sub-one, arith, length-take-le, get_or-take}
+use Rattle.std.proofs.Common.{◌≡◌, ℕ, suc, ◌+◌, ◌<◌, ◌≤◌, List, [], ◌∷◌, ◌++◌, length, get_or, take, drop, refl, ap, ◌∙◌, append_assoc, arith, length-take-le, get_or-take}
 use Rattle.std.proofs.lemmas.List.{drop_more}
 use Rattle.activity.specs.declared.Activity.{Activity}
 use Rattle.program.specs.declared.command.Command.{Command}
-use Rattle.program.specs.declared.command.Command.TheVariants.{C, P, R, Open, Bar, Close, Stop}
-use Rattle.program.specs.Grammar.{Body, finish, compensatable, pivot, Choices, row, or_else, body_commands, choices_commands, row_commands, text_commands}
+use Rattle.program.specs.declared.command.Command.TheVariants.{Bar, Close}
+use Rattle.program.specs.Grammar.{Body, finish, compensatable, pivot, Choices, row, or_else, body_commands, choices_commands, row_commands}
 use Rattle.program.specs.Places.{skip}
 
 skip_row : (ss : List Activity) (n : ℕ) (xs : List Command) → skip n (row_commands ss ++ xs) ≡ skip n xs

@@ -1,10 +1,10 @@
 -- The worked texts, from the grammar.
 use Rattle.std.proofs.Common.{◌≡◌, ℕ, ◌≤◌, List, [], ◌∷◌, ◌++◌, length, sym, refl, ap, ◌∙◌, arith, lit≤}
 use Rattle.program.specs.declared.command.Command.{Command}
-use Rattle.program.specs.declared.command.Command.TheVariants.{C, P, R, Open, Bar, Close, Stop}
-use Rattle.program.specs.declared.refusal.Fault.TheVariants.{Misplaced, CutOff}
-use Rattle.program.specs.Grammar.{mark, bytes, finish, Yields}
-use Rattle.program.specs.Refusals.{Within, Whole, Refused}
+use Rattle.program.specs.declared.command.Command.TheVariants.{C, P, R, Open, Stop}
+use Rattle.program.specs.declared.refusal.Fault.TheVariants.{Misplaced}
+use Rattle.program.specs.Grammar.{mark, bytes, finish}
+use Rattle.program.specs.Refusals.{Within, Refused}
 use Rattle.program.specs.Worked.{WorkedTexts}
 use Rattle.program.specs.Contexts.{Context, in_body_at, in_row_at, over, nowhere, go, goes}
 use Rattle.program.proofs.Trees.{goes_begins, begins_goes, goes_more, whole_goes}

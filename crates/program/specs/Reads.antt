@@ -2,12 +2,12 @@
 use Rattle.std.specs.Prelude.{◌≡◌, ℕ, ◌+◌, ◌<◌, ◌≤◌, List, [], ◌∷◌, ◌++◌, length, take, drop, Some, None, Ok, Err, Option, Result, ◌≢◌, slice_index}
 use Rattle.activity.specs.declared.Activity.{Activity}
 use Rattle.program.specs.declared.command.Command.{Command}
-use Rattle.program.specs.declared.command.Command.TheVariants.{C, P, R, Open, Bar, Close, Stop}
+use Rattle.program.specs.declared.command.Command.TheVariants.{C, P, R, Close}
 use Rattle.program.specs.declared.refusal.Refusal.{Refusal}
 use Rattle.program.specs.declared.reader.Reader.{Reader}
 use Rattle.program.specs.Grammar.{mark, written, operands, bytes}
 use Rattle.program.specs.Refusals.{weight, step_count, opened, open_after, Within, Refused}
-use Rattle.program.specs.Contexts.{Context, in_body_at, at_pivot, at_choice, in_row_at, closed, nowhere, end_mark, after_end, go, goes}
+use Rattle.program.specs.Contexts.{Context, in_body_at, at_pivot, in_row_at, closed, nowhere, end_mark, after_end, go, goes}
 
 abbrev pub text_of : Reader → List ℕ
 text_of r = r.text.now

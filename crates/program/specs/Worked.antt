@@ -1,7 +1,7 @@
 -- Texts worked through by hand, from the grammar and the meaning of the refusals alone.
-use Rattle.std.specs.Prelude.{◌≡◌, ℕ, List, [], ◌∷◌}
+use Rattle.std.specs.Prelude.{◌≡◌, [], ◌∷◌}
 use Rattle.program.specs.declared.refusal.Fault.TheVariants.{Misplaced, CutOff}
-use Rattle.program.specs.Grammar.{Yields, Body, finish, body_steps}
+use Rattle.program.specs.Grammar.{Yields, finish, body_steps}
 use Rattle.program.specs.Refusals.{Refused}
 
 pub record WorkedTexts : Type 0 where

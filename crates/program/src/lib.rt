@@ -1,4 +1,6 @@
 // Program texts: reading them, and going through the programs that reading gives. Nothing here allocates.
+#![tactic(auto)]
+
 mod check;
 mod command;
 mod cursor;

@@ -1,3 +1,5 @@
+#![tactic(auto)]
+
 // Tests of program texts: refusals at their first and last places and in their order, and walks through programs.
 #[cfg(test)]
 mod refusals;

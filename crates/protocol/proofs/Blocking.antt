@@ -1,5 +1,5 @@
 -- The tests of the rules, and what they tell.
-use Rattle.std.proofs.Common.{◌≡◌, ℕ, zero, suc, ◌<◌, ◌≤◌, min, Bool, true, false, cond, not, ◌&&◌, ◌||◌, eqb, ltb, ◌⊎◌, List, [], ◌∷◌, ◌++◌, map, Some, None, Option, sym, refl, ap, ◌∙◌, subst, inl, inr, ⊎_elim, arith}
+use Rattle.std.proofs.Common.{◌≡◌, ℕ, ◌<◌, ◌≤◌, Bool, true, false, cond, not, ◌&&◌, ◌||◌, eqb, ltb, ◌⊎◌, List, [], ◌∷◌, map, Some, None, Option, sym, refl, ap, ◌∙◌, subst, inl, inr, ⊎_elim, arith}
 use Rattle.std.proofs.lemmas.Bool.{eqb-true, eqb-false, eq-eqb, ne_eqb, true≢false, false≢true, both_ways, ltb-true, lt-ltb, or_left, or_right, or_cases, and_parts, and_from, cases_Bool}
 use Rattle.activity.specs.declared.Activity.{Activity}
 use Rattle.protocol.specs.declared.record.Record.{Record}
@@ -9,11 +9,10 @@ use Rattle.protocol.specs.declared.standing.Direction.TheVariants.{Forward, Back
 use Rattle.protocol.specs.declared.standing.Standing.TheVariants.{Running, Withdrawing, PastPivot}
 use Rattle.station.specs.Meaning.{Meaning}
 use Rattle.protocol.specs.Log.{any, owned, own, Split, from_pivot}
-use Rattle.protocol.specs.Hall.{Process, Hall, least, lower, stand, past_pivot, going_back, retreating, running, with_processes}
-use Rattle.protocol.specs.StepFunction.{holds_conflict, holds_any_conflict, stands_before_conflict, other, younger, blocks_back, blocks_plain, blocks_pivot, blocks_alone, blocks_commit, everybody, nobody, pivot_marks, marked}
-use Rattle.protocol.specs.Relation.{In, Before, Each, Retreats, Past, IsRunning, InConflict, BlocksBack, BlocksPlain, BlocksPivot, BlocksCommit, Nobody, Smallest, Marks, Marked}
+use Rattle.protocol.specs.Hall.{Process, Hall, least, lower, stand, past_pivot, going_back, retreating, running}
+use Rattle.protocol.specs.StepFunction.{holds_conflict, stands_before_conflict, other, blocks_back, blocks_plain, blocks_pivot, blocks_alone, blocks_commit, everybody, nobody, pivot_marks, marked}
+use Rattle.protocol.specs.Relation.{In, Before, Each, Retreats, Past, InConflict, BlocksBack, BlocksPlain, BlocksPivot, BlocksCommit, Nobody, Smallest, Marks}
 use Rattle.protocol.proofs.Members.{some_any}
-use Rattle.protocol.proofs.Processes.{none_some, some_same}
 
 -- the test is true just where A holds
 pub record Tells (b : Bool) (A : Type 0) : Type 0 where

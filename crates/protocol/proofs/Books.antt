@@ -1,11 +1,10 @@
 -- The book says what the hall holds.
-use Rattle.std.proofs.Common.{◌≡◌, ℕ, zero, suc, Bool, true, false, cond, not, ◌&&◌, ◌||◌, eqb, ◌⊎◌, List, [], ◌∷◌, ◌++◌, map, Some, None, filter, Option, sym, refl, ap, ◌∙◌, subst, inl, inr, ⊎_elim}
+use Rattle.std.proofs.Common.{◌≡◌, ℕ, suc, Bool, true, false, cond, not, ◌&&◌, eqb, List, [], ◌∷◌, ◌++◌, map, Some, None, filter, Option, refl, ap, ◌∙◌, inl, inr}
 use Rattle.std.specs.Option.{option_map}
-use Rattle.std.proofs.lemmas.Bool.{ne_eqb, both_ways}
+use Rattle.std.proofs.lemmas.Bool.{ne_eqb}
 use Rattle.activity.specs.declared.Activity.{Activity}
 use Rattle.protocol.specs.declared.record.Record.{Record}
 use Rattle.protocol.specs.declared.answer.Refusal.{Refusal}
-use Rattle.protocol.specs.declared.answer.Answer.{Answer}
 use Rattle.protocol.specs.declared.answer.Answer.TheVariants.{Stepped, Refused}
 use Rattle.protocol.specs.declared.answer.Turn.TheVariants as turns
 use Rattle.protocol.specs.declared.standing.Standing.{Standing}
@@ -15,19 +14,18 @@ use Rattle.protocol.specs.declared.standing.Standing.TheVariants.{Running, Withd
 use Rattle.station.specs.Meaning.{Meaning}
 use Rattle.protocol.specs.Means.{Laws}
 use Rattle.program.specs.Positions.{Position, into, alternative_of}
-use Rattle.protocol.specs.Ahead.{Next, nothing, plain, crossing, next}
-use Rattle.protocol.specs.Log.{Split, owned, removed, dropped, last_of, returnable, unless_pivot, committed_under, pivoted}
-use Rattle.protocol.specs.Hall.{Process, Hall, fresh, find, without, change, changed, stand, move, with_processes, least, beginning, running, past_pivot, Outcome, answered, failed, standing_after}
+use Rattle.protocol.specs.Ahead.{next}
+use Rattle.protocol.specs.Log.{Split, owned, dropped, last_of, unless_pivot, committed_under}
+use Rattle.protocol.specs.Hall.{Process, Hall, find, without, change, changed, stand, move, with_processes, beginning, running, Outcome, answered, failed, standing_after}
 use Rattle.protocol.specs.StepFunction.{marked, performed, restarted, gone, next_alternative, undone, committing}
 use Rattle.protocol.specs.Call.{Call, loading, installing, opening, stepping, cancelling}
-use Rattle.protocol.specs.CallFunction.{outcome, ends, replies}
+use Rattle.protocol.specs.CallFunction.{outcome}
 use Rattle.protocol.proofs.CallCases.{cases}
-use Rattle.protocol.specs.Book.{Entry, Book, empty, seek, struck, at_now, moved, with_entries, keep, keep_next, on_turn, on_step, noted}
-use Rattle.protocol.proofs.Members.{In}
-use Rattle.protocol.proofs.Processes.{found_start, some_same, none_some}
+use Rattle.protocol.specs.Book.{Entry, Book, seek, struck, moved, with_entries, keep, keep_next, on_step, noted}
+use Rattle.protocol.proofs.Processes.{none_some}
 use Rattle.protocol.proofs.LastRecords.{NotOf}
 use Rattle.protocol.proofs.Sound.{Sound}
-use Rattle.protocol.proofs.SoundKept.{sound_outcome, none_left}
+use Rattle.protocol.proofs.SoundKept.{none_left}
 
 abbrev pub entry_of : Process → Entry
 entry_of q = record { start = q.start; place = q.place; at = q.at }

@@ -1,12 +1,11 @@
 -- Every call keeps numbers and tables within their bounds.
-use Rattle.std.proofs.Common.{◌≡◌, ℕ, suc, ◌+◌, ◌*◌, ◌<◌, ◌≤◌, Bool, true, false, cond, not, ◌&&◌, eqb, ltb, leb, List, [], ◌∷◌, ◌++◌, map, length, get_or, is_some, Some, None, filter, Option, sym, refl, ap, ◌∙◌, subst, arith}
+use Rattle.std.proofs.Common.{◌≡◌, ℕ, suc, ◌+◌, ◌*◌, ◌<◌, ◌≤◌, Bool, true, false, cond, not, ◌&&◌, eqb, ltb, leb, List, [], ◌∷◌, ◌++◌, map, length, get_or, is_some, Some, None, filter, Option, sym, refl, subst, arith}
 use Rattle.std.specs.List.{AllByRecursion as All}
 use Rattle.std.proofs.ByRecursion.{All-weaker}
 use Rattle.std.proofs.lemmas.Bool.{leb-false}
 use Rattle.serial.specs.Sorts.{Pairwise}
 use Rattle.protocol.specs.Options.{when, else}
 use Rattle.activity.specs.declared.Activity.{Activity}
-use Rattle.protocol.specs.declared.answer.Refusal.{Refusal}
 use Rattle.protocol.specs.declared.answer.Refusal.TheVariants.{NoPlace, NotLoaded, Full, NoNumber, NoRoom}
 use Rattle.protocol.specs.declared.standing.Aim.TheVariants.{Restart, End}
 use Rattle.protocol.specs.declared.standing.Direction.TheVariants.{Forward}
@@ -14,13 +13,13 @@ use Rattle.protocol.specs.declared.standing.Standing.TheVariants.{Running, Withd
 use Rattle.station.specs.Meaning.{Meaning}
 use Rattle.protocol.specs.Means.{Laws}
 use Rattle.program.specs.Positions.{Position, into, alternative_of}
-use Rattle.protocol.specs.Hall.{Process, Hall, fresh, find, without, change, changed, stand, move, with_processes, running, beginning, failed, standing_after}
+use Rattle.protocol.specs.Hall.{Process, Hall, fresh, change, changed, stand, move, with_processes, running, beginning, failed, standing_after}
 use Rattle.protocol.specs.StepFunction.{marked, performed}
 use Rattle.protocol.specs.Call.{Call, Event}
 use Rattle.protocol.specs.CallFunction.{against_open, outcome, ends, all_singles}
 use Rattle.protocol.specs.Log.{committed_records}
 use Rattle.protocol.proofs.Computed.{hall_after}
-use Rattle.protocol.specs.Room.{Bounded, StaysBounded}
+use Rattle.protocol.specs.Room.{Bounded}
 use Rattle.protocol.proofs.Processes.{change_keeps, none_some}
 use Rattle.protocol.proofs.CallCases.{cases}
 use Rattle.protocol.proofs.Counts.{length-map, length_push, without_less}

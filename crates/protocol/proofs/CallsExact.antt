@@ -1,29 +1,28 @@
 -- Each call comes to exactly one thing: what the function gives is what the relation allows.
-use Rattle.std.proofs.Common.{◌≡◌, ℕ, zero, suc, ◌+◌, ◌*◌, ◌<◌, ◌≤◌, Bool, true, false, cond, not, eqb, ltb, leb, ◌⊎◌, List, [], ◌∷◌, ◌++◌, length, get_or, is_some, Some, None, Option, sym, refl, ap, ◌∙◌, subst, inl, inr, arith}
+use Rattle.std.proofs.Common.{◌≡◌, ℕ, suc, Bool, true, false, cond, not, eqb, ltb, leb, List, [], ◌∷◌, length, get_or, is_some, Some, None, Option, sym, refl, ap, ◌∙◌, subst, inl, inr, arith}
 use Rattle.std.specs.List.{AllByRecursion as All}
-use Rattle.std.proofs.lemmas.Bool.{true≢false, false≢true, both_ways, not-true, not-false, not_from_true, not_from_false, ltb-true, ltb-false, leb-true, leb-false, lt-ltb, le-ltb, le-leb, lt-leb, eqb-true, eq-eqb, or_cases}
+use Rattle.std.proofs.lemmas.Bool.{false≢true, both_ways, not-true, not_from_false, ltb-true, ltb-false, leb-true, leb-false, lt-ltb, le-ltb, le-leb, lt-leb, eqb-true, eq-eqb, or_cases}
 use Rattle.station.specs.Meaning.{Meaning}
 use Rattle.program.specs.declared.command.Kind.{Kind}
 use Rattle.program.specs.declared.command.Kind.TheVariants.{Compensatable, Pivot, Retriable}
 use Rattle.program.specs.declared.command.Step.{Step}
 use Rattle.program.specs.Grammar.{Body, body_steps}
 use Rattle.protocol.specs.declared.answer.Answer.{Answer}
-use Rattle.protocol.specs.declared.answer.Answer.TheVariants.{Loaded, Opened, Cancelled, Stepped, Refused}
 use Rattle.protocol.specs.declared.answer.Refusal.{Refusal}
-use Rattle.protocol.specs.declared.answer.Refusal.TheVariants.{BadText, NoPlace, Busy, NoActivity, WrongKind, NotLoaded, Full, NoNumber, NoRoom, NoProcess, IsPastPivot, IsWithdrawing, LongList, UnknownKind}
+use Rattle.protocol.specs.declared.answer.Refusal.TheVariants.{NoPlace, Busy, NoActivity, WrongKind, NotLoaded, Full, NoNumber, NoRoom, LongList}
 use Rattle.protocol.specs.declared.scan.Request.{Request}
 use Rattle.protocol.specs.declared.standing.Standing.{Standing}
 use Rattle.protocol.specs.declared.standing.Standing.TheVariants.{Running, Withdrawing, PastPivot}
 use Rattle.protocol.specs.Options.{when, else}
-use Rattle.protocol.specs.Log.{any, committed_records}
+use Rattle.protocol.specs.Log.{any}
 use Rattle.protocol.specs.Hall.{Process, Hall, find, Outcome, answered}
 use Rattle.protocol.specs.StepFunction.{step_of}
 use Rattle.protocol.specs.Relation.{In}
 use Rattle.protocol.specs.Call.{Call, IsProgram, loading, installing, opening, stepping, cancelling}
-use Rattle.protocol.specs.CallFunction.{fits, fault, faults, refused_or, against_load, loaded, against_open, opened, cancel_by, cancel_of, outcome, Scan, one, scanned, scan_outcome}
+use Rattle.protocol.specs.CallFunction.{fits, fault, faults, refused_or, loaded, opened, cancel_by, cancel_of, outcome, Scan, one, scanned}
 use Rattle.protocol.specs.Letters.{call_of, written}
 use Rattle.protocol.specs.Comes.{OfKind, Fits, Unfit, no_such_activity, of_another_kind, further_on, Unused, IsLoaded, records_at_most, Comes, load_nowhere, load_busy, load_unfit, loads, install_no_program, installs, open_nowhere, open_not_loaded, open_full, open_no_number, open_no_room, opens, step_nobody, steps, cancel_nobody, cancel_past_pivot, cancel_withdrawing, cancels, WorksOne, known, unknown, Works, none_left, one_by_one, Scans, too_long, worked}
-use Rattle.protocol.specs.Exact.{CallsExactly, ExactlyOneScan, ScansExactly}
+use Rattle.protocol.specs.Exact.{CallsExactly, ScansExactly}
 use Rattle.protocol.proofs.Members.{some_any, any_none}
 use Rattle.protocol.proofs.StepsExact.{exact}
 

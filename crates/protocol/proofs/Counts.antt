@@ -1,19 +1,18 @@
 -- How many records there are.
-use Rattle.std.proofs.Common.{◌≡◌, ℕ, zero, suc, ◌+◌, ◌*◌, ◌<◌, ◌≤◌, Bool, true, false, cond, not, ◌&&◌, ◌||◌, eqb, ◌⊎◌, List, [], ◌∷◌, ◌++◌, map, length, Some, None, filter, Option, sym, refl, ap, ◌∙◌, subst, inl, inr, ⊎_elim, arith, length-append}
+use Rattle.std.proofs.Common.{◌≡◌, ℕ, zero, suc, ◌+◌, ◌*◌, ◌≤◌, Bool, true, false, cond, not, ◌||◌, eqb, List, [], ◌∷◌, ◌++◌, map, length, Some, None, filter, Option, sym, refl, ap, ◌∙◌, subst, inl, inr, arith, length-append}
 use Rattle.std.proofs.lemmas.Bool.{eqb-true, eqb-false, eq-eqb, ne_eqb, true≢false, false≢true, or_parts, cases_Bool}
 use Rattle.activity.specs.declared.Activity.{Activity}
 use Rattle.protocol.specs.declared.record.Record.{Record}
-use Rattle.program.specs.Grammar.{Body, finish, compensatable, pivot, Choices, row, or_else, body_steps, choices_steps, row_steps}
-use Rattle.program.specs.Positions.{Rest, in_body, in_row, Position, outer, inner, alternative}
+use Rattle.program.specs.Grammar.{finish, compensatable, pivot, Choices, row, or_else, body_steps, choices_steps, row_steps}
+use Rattle.program.specs.Positions.{in_body, in_row, Position, outer, inner, alternative}
 use Rattle.protocol.specs.Ahead.{Next, nothing, plain, crossing, next}
-use Rattle.protocol.specs.Log.{any, Split, owned, own, rejoined, removed, last_of, unless_pivot, returnable, to_pivot, from_pivot, committed_under, committed_records}
+use Rattle.protocol.specs.Log.{any, Split, owned, own, removed, last_of, unless_pivot, returnable, to_pivot, from_pivot, committed_under, committed_records}
 use Rattle.protocol.specs.Hall.{Process, find, without}
-use Rattle.protocol.specs.Statements.{without_commit_number}
 pub use Rattle.protocol.specs.Held.{size, choice_size, rest_size, Roomy}
 use Rattle.protocol.proofs.Members.{In}
-use Rattle.protocol.proofs.Processes.{none_some, some_same}
-use Rattle.protocol.proofs.LastRecords.{NotOf, Last, Loose, LastIs, last_is}
-use Rattle.protocol.proofs.PivotsStay.{kept_append, pivot_plain, own_none, own_sealed, pivot_sealed}
+use Rattle.protocol.proofs.Processes.{none_some}
+use Rattle.protocol.proofs.LastRecords.{Last, LastIs, last_is}
+use Rattle.protocol.proofs.PivotsStay.{kept_append, pivot_plain, own_none}
 
 pub length-map : {X Y : Type 0} (f : X → Y) (xs : List X) → length (map f xs) ≡ length xs
 length-map f [] = refl

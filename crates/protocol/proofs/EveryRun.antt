@@ -1,19 +1,16 @@
 -- What holds of the run that the functions compute holds of every run, since there is no other.
-use Rattle.std.proofs.Common.{◌≡◌, ℕ, ◌≤◌, Bool, true, false, cond, ltb, List, [], ◌∷◌, ◌++◌, length, Some, None, Option, sym, refl, ap, ◌∙◌, subst}
+use Rattle.std.proofs.Common.{◌≡◌, ◌≤◌, Bool, true, false, cond, ltb, List, [], ◌∷◌, ◌++◌, length, Some, sym, refl, ap, ◌∙◌, subst}
 use Rattle.station.specs.Meaning.{Meaning}
-use Rattle.protocol.specs.declared.answer.Answer.{Answer}
-use Rattle.protocol.specs.declared.answer.Refusal.{Refusal}
 use Rattle.protocol.specs.declared.answer.Refusal.TheVariants.{LongList}
 use Rattle.protocol.specs.declared.scan.Request.{Request}
 use Rattle.protocol.specs.Means.{Laws}
 use Rattle.protocol.specs.Hall.{Hall, fresh}
-use Rattle.protocol.specs.Call.{Call, Event, call, scan}
+use Rattle.protocol.specs.Call.{Event, call, scan}
 use Rattle.protocol.specs.CallFunction.{outcome, scanned, scan_outcome, after, after_all}
 use Rattle.protocol.specs.Book.{Told, called, scan_served, scan_refused}
-use Rattle.protocol.specs.Comes.{Comes, Scans}
-use Rattle.protocol.specs.Statements.{Runs, no_more, by_call, by_scan, scan_told, OneRun, RunsExactly, Agree, Agrees, Fixed, Stays}
+use Rattle.protocol.specs.Statements.{Runs, no_more, by_call, by_scan, scan_told, RunsExactly, Agree, Agrees, Fixed, Stays}
 use Rattle.protocol.specs.Room.{HasRoom, Bounded, StaysBounded}
-use Rattle.protocol.proofs.Computed.{tells, history, hall_after}
+use Rattle.protocol.proofs.Computed.{tells, history}
 use Rattle.protocol.proofs.CallsExact.{calls_exactly, scans_exactly, served}
 use Rattle.protocol.proofs.Promise as promise
 use Rattle.protocol.proofs.Rooms as rooms

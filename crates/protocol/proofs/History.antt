@@ -1,10 +1,10 @@
 -- The book that is fed with what was told of a hall is the hall's own view: calls with their answers, scan lists by letters and numbers.
-use Rattle.std.proofs.Common.{◌≡◌, ℕ, Bool, true, false, cond, eqb, ltb, List, [], ◌∷◌, ◌++◌, length, Some, None, Option, sym, refl, ap, ◌∙◌, subst}
+use Rattle.std.proofs.Common.{◌≡◌, ℕ, Bool, true, false, cond, eqb, ltb, List, [], ◌∷◌, length, Some, None, Option, sym, refl, ap, ◌∙◌, subst}
 use Rattle.station.specs.Meaning.{Meaning}
 use Rattle.protocol.specs.declared.answer.Answer.{Answer}
 use Rattle.protocol.specs.declared.answer.Answer.TheVariants.{Loaded, Opened, Cancelled, Stepped, Refused}
 use Rattle.protocol.specs.declared.answer.Refusal.{Refusal}
-use Rattle.protocol.specs.declared.answer.Refusal.TheVariants.{LongList, UnknownKind}
+use Rattle.protocol.specs.declared.answer.Refusal.TheVariants.{LongList}
 use Rattle.protocol.specs.declared.answer.Turn.{Turn}
 use Rattle.protocol.specs.declared.answer.Turn.TheVariants as turns
 use Rattle.protocol.specs.declared.scan.Request.{Request}
@@ -12,9 +12,9 @@ use Rattle.protocol.specs.declared.standing.Standing.{Standing}
 use Rattle.protocol.specs.declared.standing.Standing.TheVariants.{Running, Withdrawing, PastPivot}
 use Rattle.protocol.specs.Options.{when, else}
 use Rattle.protocol.specs.Means.{Laws}
-use Rattle.protocol.specs.Hall.{Process, Hall, find, Outcome, answered}
+use Rattle.protocol.specs.Hall.{Process, Hall, find}
 use Rattle.protocol.specs.StepFunction.{step_of}
-use Rattle.protocol.specs.Call.{Call, loading, installing, opening, stepping, cancelling, Event, call, scan}
+use Rattle.protocol.specs.Call.{Call, opening, stepping, cancelling, Event, call, scan}
 use Rattle.protocol.specs.CallFunction.{refused_or, against_open, opened, cancel_by, cancel_of, outcome, one, scanned, after, after_all}
 use Rattle.protocol.specs.Letters.{call_of, written}
 use Rattle.protocol.specs.Book.{Entry, Book, seek, on_step, noted, answer_told, noted_if, noted_record, noted_records, scan_served, scan_refused, heard, book_of}

@@ -1,10 +1,9 @@
 -- The last record of a process, and those up to its last pivot.
-use Rattle.std.proofs.Common.{◌≡◌, ℕ, Bool, true, false, cond, not, ◌&&◌, ◌||◌, eqb, ◌⊎◌, List, [], ◌∷◌, ◌++◌, map, Some, None, Option, sym, refl, ap, ◌∙◌, subst, inl, inr, ⊎_elim}
-use Rattle.std.proofs.lemmas.Bool.{eqb-true, eqb-false, eq-eqb, or_parts, true≢false, false≢true, and_from}
+use Rattle.std.proofs.Common.{◌≡◌, ℕ, Bool, true, false, cond, ◌&&◌, ◌⊎◌, List, [], ◌∷◌, Some, None, Option, sym, refl, ap, ◌∙◌, subst, inl, inr}
+use Rattle.std.proofs.lemmas.Bool.{eqb-true, eqb-false, eq-eqb, or_parts, and_from}
 use Rattle.protocol.specs.declared.record.Record.{Record}
-use Rattle.protocol.specs.Log.{any, owned, own, Split, rejoined, removed, or_here, last_of, unless_pivot, returnable, pivoted, from_pivot}
+use Rattle.protocol.specs.Log.{any, owned, Split, rejoined, or_here, last_of, unless_pivot, returnable, pivoted, from_pivot}
 use Rattle.protocol.proofs.Members.{In, some_any, in_here}
-use Rattle.protocol.proofs.Processes.{some_same, none_some}
 
 abbrev pub NotOf : ℕ → List Record → Type 0
 NotOf n log = (r : Record) → In r log → r.start ≡ n → ⊥

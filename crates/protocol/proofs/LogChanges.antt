@@ -1,5 +1,5 @@
 -- A step done, a step taken back and a commit keep a hall sound.
-use Rattle.std.proofs.Common.{◌≡◌, ℕ, zero, suc, ◌<◌, ◌≤◌, Bool, true, false, cond, not, ◌&&◌, ◌||◌, eqb, ◌⊎◌, List, [], ◌∷◌, ◌++◌, map, Some, None, Option, sym, refl, ap, ◌∙◌, subst, inl, inr, ⊎_elim, arith}
+use Rattle.std.proofs.Common.{◌≡◌, ℕ, suc, ◌<◌, ◌≤◌, Bool, true, false, cond, ◌&&◌, ◌||◌, eqb, ◌⊎◌, List, [], ◌∷◌, ◌++◌, map, Some, sym, refl, ap, ◌∙◌, subst, inl, inr, ⊎_elim, arith}
 use mathlib.Core.Path.{fun_ext}
 use Rattle.std.proofs.lemmas.Bool.{true≢false, false≢true, eqb-true, eqb-false, eq-eqb, ne_eqb, and_from, and_cases, cases_eq, and_right, both_ways}
 use Rattle.serial.specs.Replay.{Replays}
@@ -9,17 +9,16 @@ use Rattle.serial.proofs.Theorems.{taking_back_replays}
 use Rattle.activity.specs.declared.Activity.{Activity}
 use Rattle.protocol.specs.declared.record.Record.{Record}
 use Rattle.protocol.specs.declared.standing.Standing.{Standing}
-use Rattle.protocol.specs.declared.standing.Standing.TheVariants.{Running, Withdrawing, PastPivot}
 use Rattle.station.specs.Meaning.{Meaning}
 use Rattle.protocol.specs.Means.{actions, Laws, Does, conflicting}
 use Rattle.program.specs.Positions.{Position}
 use Rattle.protocol.specs.Log.{any, owned, own, Split, rejoined, removed, pivoted, group, number, prior, committed_under, from_pivot}
-use Rattle.protocol.specs.Hall.{Process, Hall, find, without, change, changed, stand, move, past_pivot, record_of, standing_after}
+use Rattle.protocol.specs.Hall.{Process, Hall, find, changed, move, past_pivot, record_of, standing_after}
 use Rattle.protocol.specs.StepFunction.{holds_conflict, holds_any_conflict, stands_before_conflict, performed, undone, committing}
-use Rattle.protocol.proofs.Members.{In, Before, all_from, before_first, before_second, in_push, before_push, in_more, before_more, before_here, in_here, in_map, before_map, any_none, none_any, any_push, any_more, any_map, in_kept, any_kept}
-use Rattle.protocol.proofs.Processes.{found_start, from_changed, to_changed, find_without, from_without, without_none, some_same, none_some}
+use Rattle.protocol.proofs.Members.{In, Before, all_from, before_first, before_second, in_push, before_push, in_more, before_more, before_here, in_here, in_map, before_map, any_none, any_push, any_more, any_map, in_kept, any_kept}
+use Rattle.protocol.proofs.Processes.{found_start, from_changed, to_changed, find_without, from_without}
 use Rattle.protocol.proofs.Ranks.{Rank, committed, pivoting, waiting, rank, Later, later, not_prior}
-use Rattle.protocol.proofs.LastRecords.{NotOf, Last, Loose, from_none}
+use Rattle.protocol.proofs.LastRecords.{Loose, from_none}
 use Rattle.protocol.proofs.Sound.{rowless, Placed, Owner, Active, Ordered, Sound}
 
 -- a record of a process that conflicts with nothing of a process n in the log

@@ -1,20 +1,18 @@
 -- What comes next fits.
-use Rattle.std.proofs.Common.{◌≡◌, ℕ, zero, suc, Bool, true, false, cond, not, ◌&&◌, ◌||◌, eqb, ltb, List, [], ◌∷◌, ◌++◌, map, Some, None, Option, sym, refl, ap, ◌∙◌, subst}
+use Rattle.std.proofs.Common.{◌≡◌, ℕ, zero, suc, Bool, true, false, eqb, ltb, List, [], ◌∷◌, ◌++◌, Some, None, Option, sym, refl}
 use Rattle.std.specs.List.{AllByRecursion as All}
-use Rattle.std.proofs.lemmas.Bool.{true≢false, false≢true, not-false, not-true, leb-false}
+use Rattle.std.proofs.lemmas.Bool.{true≢false, false≢true, not-false}
 use Rattle.protocol.specs.Options.{when, else}
 use Rattle.activity.specs.declared.Activity.{Activity}
-use Rattle.protocol.specs.declared.answer.Refusal.{Refusal}
 use Rattle.protocol.specs.declared.standing.Aim.{Aim}
 use Rattle.protocol.specs.declared.standing.Standing.{Standing}
 use Rattle.protocol.specs.declared.standing.Direction.TheVariants.{Forward, Back}
 use Rattle.protocol.specs.declared.standing.Standing.TheVariants.{Running, Withdrawing, PastPivot}
 use Rattle.station.specs.Meaning.{Meaning}
 use Rattle.program.specs.Grammar.{Body, finish, compensatable, pivot, Choices, row, or_else, body_steps, choices_steps, row_steps}
-use Rattle.program.specs.Positions.{Rest, in_body, in_row, Position, outer, inner, alternative, into, alternative_of}
+use Rattle.program.specs.Positions.{in_body, in_row, Position, outer, inner, alternative, into}
 use Rattle.protocol.specs.Ahead.{Next, nothing, plain, crossing, next}
 use Rattle.program.specs.declared.command.Step.{Step}
-use Rattle.program.specs.declared.command.Kind.TheVariants.{Compensatable, Pivot, Retriable}
 use Rattle.protocol.specs.Hall.{failed, Hall}
 use Rattle.protocol.specs.Log.{any}
 use Rattle.protocol.specs.declared.answer.Refusal.TheVariants.{NoPlace, Busy}

@@ -1,8 +1,7 @@
 -- The promise, over the run that the functions compute.
-use Rattle.std.proofs.Common.{◌≡◌, ℕ, ◌<◌, ◌≤◌, Bool, true, false, cond, not, ◌&&◌, ◌||◌, eqb, ltb, leb, ◌⊎◌, List, [], ◌∷◌, ◌++◌, map, length, Some, None, Option, sym, refl, ap, ◌∙◌, subst, inl, inr, ⊎_elim, append_assoc, arith}
-use Rattle.std.proofs.ByRecursion.{All-weaker}
+use Rattle.std.proofs.Common.{◌≡◌, ℕ, ◌<◌, ◌≤◌, Bool, true, false, cond, ◌&&◌, eqb, ltb, leb, ◌⊎◌, List, [], ◌∷◌, ◌++◌, map, length, Some, None, Option, sym, refl, ap, ◌∙◌, subst, inl, inr, ⊎_elim, append_assoc, arith}
 use Rattle.std.proofs.lemmas.Bool.{or_left, or_right, or_cases, and_from, and_parts, eq-eqb, eqb-true, le-leb, leb-true, lt-ltb, ltb-true, cases_eq}
-use Rattle.serial.specs.Sorts.{Pairwise, insert, sort}
+use Rattle.serial.specs.Sorts.{Pairwise}
 use Rattle.serial.specs.Replay.{Replays}
 use Rattle.serial.proofs.Sorting.{sort_sorted, sort_stable}
 use Rattle.serial.proofs.Unique.{one_serial_order}
@@ -14,19 +13,17 @@ use Rattle.protocol.specs.Means.{actions, Laws, Does, conflicting}
 use Rattle.protocol.specs.Log.{owned, own, to_pivot, orderly, prior, pivoted, group, number}
 use Rattle.protocol.specs.Hall.{Hall, fresh}
 use Rattle.protocol.specs.Call.{Call, Event, call, scan}
-use Rattle.protocol.specs.CallFunction.{singles, all_singles, ends, replies, outcome, one, scanned, calls_of, and_call, after, after_all}
+use Rattle.protocol.specs.CallFunction.{singles, all_singles, ends, outcome, one, scanned, calls_of, and_call, after, after_all}
 use Rattle.protocol.specs.Letters.{call_of}
 use Rattle.protocol.specs.declared.scan.Request.{Request}
 use Rattle.protocol.proofs.Ranks.{Later, later}
 use Rattle.program.specs.Places.{nth}
-use Rattle.protocol.specs.Book.{Book, empty}
 use Rattle.protocol.specs.Statements.{Agree, Orderly, without_commit_number, Begins, Fixed}
 use Rattle.protocol.proofs.Computed.{hall_after, book_after, history}
-use Rattle.protocol.proofs.Members.{In, pairs_from, all_from, before_first, before_second}
+use Rattle.protocol.proofs.Members.{pairs_from, all_from, before_first, before_second}
 use Rattle.std.specs.List.{AllByRecursion as All}
 use Rattle.protocol.proofs.Sound.{Sound}
 use Rattle.protocol.proofs.StandingChanges.{sound_fresh}
-use Rattle.protocol.proofs.SoundKept.{sound_ends}
 use Rattle.protocol.proofs.History.{history_is, sound_events}
 use Rattle.protocol.proofs.PivotsStay.{grows_ends, pivot_begins, begins_map, begins_more}
 use Rattle.protocol.proofs.LogChanges.{any_state, commuting}

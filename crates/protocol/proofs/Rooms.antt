@@ -1,32 +1,29 @@
 -- Every call leaves room in the log.
-use Rattle.std.proofs.Common.{◌≡◌, ℕ, zero, suc, ◌+◌, ◌*◌, ◌<◌, ◌≤◌, Bool, true, false, cond, not, ◌&&◌, ◌||◌, eqb, ltb, leb, ◌⊎◌, List, [], ◌∷◌, ◌++◌, map, length, get_or, is_some, Some, None, filter, Option, sym, refl, ap, ◌∙◌, subst, inl, inr, ⊎_elim, append-nil, arith}
+use Rattle.std.proofs.Common.{◌≡◌, ℕ, zero, suc, ◌+◌, ◌*◌, ◌≤◌, Bool, true, false, cond, not, ◌&&◌, eqb, ltb, leb, List, [], ◌∷◌, ◌++◌, map, length, get_or, is_some, Some, None, filter, Option, sym, refl, ap, ◌∙◌, subst, ⊎_elim, append-nil, arith}
 use Rattle.std.specs.List.{AllByRecursion as All}
 use Rattle.std.proofs.ByRecursion.{All-set}
-use Rattle.std.proofs.lemmas.Bool.{eqb-true, eqb-false, eq-eqb, ne_eqb, ltb-false, both_ways, cases_eq}
+use Rattle.std.proofs.lemmas.Bool.{eqb-true, eq-eqb, ne_eqb, ltb-false, cases_eq}
 use Rattle.protocol.specs.Options.{when, else}
 use Rattle.activity.specs.declared.Activity.{Activity}
 use Rattle.protocol.specs.declared.record.Record.{Record}
-use Rattle.protocol.specs.declared.answer.Refusal.{Refusal}
 use Rattle.protocol.specs.declared.answer.Refusal.TheVariants.{NoPlace, NotLoaded, Full, NoNumber, NoRoom}
-use Rattle.protocol.specs.declared.standing.Standing.{Standing}
 use Rattle.protocol.specs.declared.standing.Aim.TheVariants.{Restart, End}
 use Rattle.protocol.specs.declared.standing.Direction.TheVariants.{Forward}
 use Rattle.protocol.specs.declared.standing.Standing.TheVariants.{Running, Withdrawing, PastPivot}
 use Rattle.station.specs.Meaning.{Meaning}
 use Rattle.protocol.specs.Means.{Laws}
-use Rattle.program.specs.Grammar.{Body, Choices, row, or_else, body_steps}
-use Rattle.program.specs.Positions.{Rest, in_body, in_row, Position, outer, inner, alternative, reached, into, alternative_of}
-use Rattle.protocol.specs.Ahead.{Next, nothing, plain, crossing, next}
-use Rattle.protocol.specs.Log.{Split, owned, own, removed, returnable, pivoted, to_pivot, from_pivot, committed_under, committed_records}
-use Rattle.protocol.specs.Hall.{Process, Hall, fresh, find, without, change, changed, stand, move, with_processes, past_pivot, running, body_of, beginning, least, failed, standing_after, record_of}
+use Rattle.program.specs.Grammar.{Body, Choices, row, or_else}
+use Rattle.program.specs.Positions.{Position, outer, inner, alternative, reached, into, alternative_of}
+use Rattle.protocol.specs.Log.{Split, own, removed, returnable, to_pivot, from_pivot, committed_under, committed_records}
+use Rattle.protocol.specs.Hall.{Process, Hall, fresh, find, without, change, changed, stand, move, with_processes, running, body_of, beginning, failed, standing_after, record_of}
 use Rattle.protocol.specs.StepFunction.{marked, performed, undone, committing}
 use Rattle.protocol.specs.Call.{Call, Event}
 use Rattle.protocol.specs.CallFunction.{against_open, loaded, opened, outcome, ends, all_singles}
 use Rattle.protocol.proofs.CallCases.{cases}
 use Rattle.protocol.specs.Statements.{without_commit_number}
 use Rattle.protocol.proofs.Computed.{hall_after}
-use Rattle.protocol.proofs.Members.{In, none_any}
-use Rattle.protocol.proofs.Processes.{found_start, from_map, change_keeps, from_changed, from_without, from_push, some_same, none_some}
+use Rattle.protocol.proofs.Members.{In}
+use Rattle.protocol.proofs.Processes.{from_map, from_changed, from_without, from_push, none_some}
 use Rattle.protocol.proofs.LastRecords.{NotOf, Loose, LooseIs, loose_is}
 use Rattle.protocol.proofs.PivotsStay.{own_none, own_sealed, pivot_sealed, pivot_plain}
 use Rattle.protocol.proofs.Counts.{length-map, length_push, parts, size, Roomy, roomy_few, roomy_alike, NextRoom, next_room, own_pushed, own_taken, own_left, own_others, none_loose, two_kinds, closed_push, closed_less, closed_sealed, without_less, kept_in, fewer_own, spread}

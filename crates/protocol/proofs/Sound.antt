@@ -1,5 +1,5 @@
 -- What stays true of a hall from its making on.
-use Rattle.std.proofs.Common.{◌≡◌, ℕ, ◌<◌, ◌≤◌, Bool, true, false, cond, not, ◌&&◌, ◌||◌, ◌⊎◌, List, [], ◌∷◌, ◌++◌, map, get_or, Some, None, Option, sym, refl, ap, ◌∙◌, subst, inl, inr, ⊎_elim}
+use Rattle.std.proofs.Common.{◌≡◌, ℕ, ◌≤◌, Bool, true, false, List, Some}
 use Rattle.std.specs.List.{AllByRecursion as All}
 use Rattle.serial.specs.Replay.{Replays}
 use Rattle.activity.specs.declared.Activity.{Activity}

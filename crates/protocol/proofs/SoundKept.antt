@@ -1,8 +1,7 @@
 -- Every call keeps a hall sound.
-use Rattle.std.proofs.Common.{◌≡◌, ℕ, zero, suc, ◌≤◌, Bool, true, false, cond, not, ◌&&◌, ◌||◌, eqb, ◌⊎◌, List, [], ◌∷◌, ◌++◌, map, is_some, Some, None, Option, sym, refl, ap, ◌∙◌, subst, inl, inr, ⊎_elim}
+use Rattle.std.proofs.Common.{◌≡◌, ℕ, suc, ◌≤◌, Bool, true, false, not, ◌&&◌, ◌||◌, List, [], ◌∷◌, is_some, Some, None, Option, sym, refl, ap, ◌∙◌, subst, inl, inr, ⊎_elim}
 use Rattle.std.proofs.lemmas.Bool.{true≢false, false≢true, ne_eqb, and_cases, or_parts, ltb-false, both_ways, cases_Bool}
 use Rattle.activity.specs.declared.Activity.{Activity}
-use Rattle.protocol.specs.declared.record.Record.{Record}
 use Rattle.protocol.specs.declared.standing.Aim.{Aim}
 use Rattle.protocol.specs.declared.standing.Standing.{Standing}
 use Rattle.protocol.specs.declared.standing.Aim.TheVariants.{Restart, End}
@@ -11,17 +10,17 @@ use Rattle.protocol.specs.declared.standing.Standing.TheVariants.{Running, Withd
 use Rattle.station.specs.Meaning.{Meaning}
 use Rattle.protocol.specs.Means.{Laws}
 use Rattle.program.specs.Positions.{Position, outer, inner, into, alternative_of}
-use Rattle.protocol.specs.Ahead.{Next, nothing, plain, crossing, next}
-use Rattle.protocol.specs.Log.{Split, returnable, own, from_pivot, pivoted}
+use Rattle.protocol.specs.Ahead.{Next, plain, crossing, next}
+use Rattle.protocol.specs.Log.{returnable, own, from_pivot, pivoted}
 use Rattle.protocol.specs.Hall.{Process, Hall, find, past_pivot, retreating, stand, move, beginning, failed}
-use Rattle.protocol.specs.StepFunction.{holds_conflict, holds_any_conflict, stands_before_conflict, other, younger, blocks_back, blocks_plain, blocks_pivot, blocks_alone, blocks_commit, performed}
+use Rattle.protocol.specs.StepFunction.{holds_conflict, holds_any_conflict, stands_before_conflict, other, younger, blocks_plain, blocks_pivot, blocks_alone, performed}
 use Rattle.protocol.specs.Call.{Call}
 use Rattle.protocol.specs.CallFunction.{outcome, ends}
 use Rattle.protocol.proofs.Processes.{found_start}
 use Rattle.protocol.proofs.LastRecords.{loose_is, LooseIs, NotOf}
-use Rattle.protocol.proofs.CallCases.{Going, Backing, Passes, Leaves, cases}
+use Rattle.protocol.proofs.CallCases.{Going, Backing, Passes, cases}
 use Rattle.protocol.proofs.Sound.{rowless, Placed, Sound}
-use Rattle.protocol.proofs.StandingChanges.{Alike, sound_changed, sound_marked, sound_gone, sound_opened, sound_loaded, begins}
+use Rattle.protocol.proofs.StandingChanges.{sound_changed, sound_marked, sound_gone, sound_opened, sound_loaded, begins}
 use Rattle.protocol.proofs.LogChanges.{Clear, First, How, same, first, sound_done, sound_undone, sound_committed}
 use Rattle.protocol.proofs.ProgramFits.{Plain, Crossing, NextFits, running_fits, past_fits, failed_placed, into_placed, back_rowless, withdrawing_rowless, load_fits}
 

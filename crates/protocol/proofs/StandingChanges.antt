@@ -1,5 +1,5 @@
 -- What does not touch the log keeps a hall sound.
-use Rattle.std.proofs.Common.{◌≡◌, ℕ, zero, suc, ◌<◌, ◌≤◌, Bool, true, false, cond, not, ◌&&◌, ◌||◌, eqb, ◌⊎◌, List, [], ◌∷◌, ◌++◌, map, get_or, set, Some, None, Option, sym, refl, ap, ◌∙◌, subst, inl, inr, ⊎_elim, arith}
+use Rattle.std.proofs.Common.{◌≡◌, ℕ, zero, suc, ◌≤◌, Bool, true, false, cond, ◌&&◌, ◌⊎◌, List, [], ◌∷◌, ◌++◌, map, get_or, Some, None, Option, sym, refl, ap, ◌∙◌, subst, inl, inr, ⊎_elim, arith}
 use Rattle.std.specs.List.{AllByRecursion as All}
 use Rattle.std.proofs.ByRecursion.{All-set}
 use Rattle.std.proofs.lemmas.Bool.{true≢false, false≢true}
@@ -8,17 +8,16 @@ use Rattle.protocol.specs.declared.standing.Standing.{Standing}
 use Rattle.protocol.specs.declared.standing.Aim.TheVariants.{Restart}
 use Rattle.protocol.specs.declared.standing.Standing.TheVariants.{Running, Withdrawing, PastPivot}
 use Rattle.station.specs.Meaning.{Meaning}
-use Rattle.protocol.specs.Means.{Does, conflicting}
-use Rattle.program.specs.Grammar.{Body, finish, Choices, row, or_else}
-use Rattle.program.specs.Positions.{Rest, in_body, in_row, Position, outer, inner, alternative, into, alternative_of}
-use Rattle.protocol.specs.Log.{pivoted, prior, any, owned}
-use Rattle.protocol.specs.Hall.{Process, Hall, fresh, find, without, change, changed, stand, move, with_processes, past_pivot, running, body_of, beginning, failed}
-use Rattle.protocol.specs.StepFunction.{marked, restarted, gone, next_alternative}
+use Rattle.program.specs.Grammar.{Body}
+use Rattle.program.specs.Positions.{Position, outer, inner}
+use Rattle.protocol.specs.Log.{pivoted, owned}
+use Rattle.protocol.specs.Hall.{Process, Hall, fresh, find, without, change, changed, stand, with_processes, past_pivot, running, body_of, beginning}
+use Rattle.protocol.specs.StepFunction.{marked}
 use Rattle.protocol.specs.CallFunction.{loaded, opened}
-use Rattle.protocol.proofs.Members.{In, Before, any_none, none_any}
-use Rattle.protocol.proofs.Processes.{found_start, find_map, from_map, to_map, change_keeps, from_changed, find_without, from_without, from_push, to_push, some_same, none_some}
+use Rattle.protocol.proofs.Members.{none_any}
+use Rattle.protocol.proofs.Processes.{from_map, to_map, change_keeps, from_changed, find_without, from_without, from_push, to_push, some_same, none_some}
 use Rattle.protocol.proofs.LastRecords.{NotOf}
-use Rattle.protocol.proofs.Sound.{FitsBody, FitsChoices, FitsRest, rowless, Placed, Owner, Active, Sound}
+use Rattle.protocol.proofs.Sound.{FitsBody, rowless, Placed, Active, Sound}
 
 -- a process that changed counts as before
 pub record Alike {S : Type 0} (M : Meaning S) (q r : Process) : Type 0 where

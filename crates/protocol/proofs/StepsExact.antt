@@ -1,5 +1,5 @@
 -- A step comes to just one thing: what the rules allow.
-use Rattle.std.proofs.Common.{◌≡◌, ℕ, zero, suc, Bool, true, false, cond, not, ◌&&◌, ◌||◌, ◌⊎◌, List, [], ◌∷◌, ◌++◌, map, Some, None, Option, sym, refl, ap, ◌∙◌, subst, inl, inr, ⊎_elim}
+use Rattle.std.proofs.Common.{◌≡◌, ℕ, suc, Bool, true, false, cond, not, ◌&&◌, ◌⊎◌, List, [], ◌∷◌, ◌++◌, map, Some, None, Option, sym, refl, ap, ◌∙◌, subst, inl, inr, ⊎_elim}
 use Rattle.std.proofs.lemmas.Bool.{true≢false, false≢true, eq-eqb, ne_eqb, both_ways, cases_Bool}
 use Rattle.activity.specs.declared.Activity.{Activity}
 use Rattle.protocol.specs.declared.record.Record.{Record}
@@ -11,16 +11,15 @@ use Rattle.protocol.specs.declared.answer.Turn.{Turn}
 use Rattle.protocol.specs.declared.answer.Turn.TheVariants as turns
 use Rattle.protocol.specs.declared.answer.Answer.TheVariants.{Stepped}
 use Rattle.station.specs.Meaning.{Meaning}
-use Rattle.program.specs.Positions.{Position, alternative_of, into}
+use Rattle.program.specs.Positions.{Position, alternative_of}
 use Rattle.protocol.specs.Ahead.{Next, nothing, plain, crossing, next}
-use Rattle.protocol.specs.Log.{Split, owned, rejoined, removed, or_here, last_of, unless_pivot, returnable, pivoted}
+use Rattle.protocol.specs.Log.{Split, or_here, last_of, unless_pivot, returnable}
 use Rattle.protocol.specs.Hall.{Process, Hall, least, past_pivot, with_processes, going_back, Outcome, answered, standing_after, failed}
 use Rattle.protocol.specs.StepFunction.{blocks_back, blocks_plain, blocks_pivot, blocks_alone, blocks_commit, everybody, nobody, pivot_marks, marked, waits, unless_blocked, performed, restarted, gone, next_alternative, undone, committing, backward, forward, by_standing}
-use Rattle.protocol.specs.Relation.{In, Retreats, Advances, Past, ToTakeBack, NoneToTakeBack, BlocksBack, BlocksPlain, BlocksPivot, BlocksCommit, Nobody, Smallest, Marked, Free, free_plain, free_pivot, Steps, waits_back, takes_back, restarts, leaves, takes_next_alternative, waits_plain, waits_alone, waits_pivot, performs, fails, waits_commit, commits}
+use Rattle.protocol.specs.Relation.{Retreats, Advances, Past, ToTakeBack, NoneToTakeBack, BlocksBack, BlocksPlain, BlocksPivot, BlocksCommit, Nobody, Free, free_plain, free_pivot, Steps, waits_back, takes_back, restarts, leaves, takes_next_alternative, waits_plain, waits_alone, waits_pivot, performs, fails, waits_commit, commits}
 use Rattle.protocol.specs.Exact.{Exact}
-use Rattle.protocol.proofs.Members.{in_here}
-use Rattle.protocol.proofs.LastRecords.{NotOf, Last, Loose, LooseIs, loose_is}
-use Rattle.protocol.proofs.Blocking.{OfOthers, back_tells, plain_tells, pivot_tells, pivot_marks_tell, everybody_tells, alone_tells, commit_tells, nobody_from, smallest_from, nobody_to, smallest_to, marked_from, marked_to, unmarked}
+use Rattle.protocol.proofs.LastRecords.{NotOf, Loose, LooseIs, loose_is}
+use Rattle.protocol.proofs.Blocking.{back_tells, plain_tells, pivot_tells, pivot_marks_tell, everybody_tells, alone_tells, commit_tells, nobody_from, smallest_from, nobody_to, smallest_to, marked_from, marked_to, unmarked}
 
 -- the record to take back is the one that is found
 

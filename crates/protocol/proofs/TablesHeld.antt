@@ -1,11 +1,11 @@
 -- Every call keeps a hall's tables in order, whatever the station means.
-use Rattle.std.proofs.Common.{◌≡◌, ℕ, zero, suc, ◌+◌, ◌*◌, ◌<◌, ◌≤◌, Bool, true, false, cond, not, ◌&&◌, ◌||◌, eqb, ◌⊎◌, List, [], ◌∷◌, ◌++◌, map, length, Some, None, Option, sym, refl, ap, ◌∙◌, subst, inl, inr, ⊎_elim, arith}
+use Rattle.std.proofs.Common.{◌≡◌, ℕ, suc, ◌<◌, ◌≤◌, Bool, true, false, cond, ◌&&◌, eqb, List, [], ◌∷◌, ◌++◌, map, length, Some, None, Option, sym, refl, ap, ◌∙◌, subst, ⊎_elim, arith}
 use mathlib.Core.Logic.{∥∥₁_elim}
 use mathlib.Core.HLevel.{Unit-prop, ×_prop}
 use native.Mathlib.Bridge.{le_prop}
 use Rattle.serial.specs.Sorts.{Pairwise}
 use Rattle.std.specs.List.{AllByRecursion as All}
-use Rattle.std.proofs.lemmas.Bool.{eqb-true, eqb-false, eq-eqb, ne_eqb, true≢false, false≢true, both_ways, cases_eq, cases_Bool}
+use Rattle.std.proofs.lemmas.Bool.{eqb-true, eqb-false, true≢false, both_ways}
 use Rattle.activity.specs.declared.Activity.{Activity}
 use Rattle.protocol.specs.declared.record.Record.{Record}
 use Rattle.protocol.specs.declared.standing.Standing.{Standing}
@@ -13,20 +13,19 @@ use Rattle.protocol.specs.declared.standing.Aim.TheVariants.{Restart, End}
 use Rattle.protocol.specs.declared.standing.Direction.TheVariants.{Forward}
 use Rattle.protocol.specs.declared.standing.Standing.TheVariants.{Running, Withdrawing, PastPivot}
 use Rattle.station.specs.Meaning.{Meaning}
-use Rattle.program.specs.Grammar.{Body}
 use Rattle.program.specs.Positions.{Position, alternative_of, into}
 use Rattle.protocol.specs.Ahead.{next, plain, crossing}
-use Rattle.protocol.specs.Log.{Split, owned, own, rejoined, removed, returnable, pivoted, committed_under}
+use Rattle.protocol.specs.Log.{Split, owned, own, removed, returnable, pivoted, committed_under}
 use Rattle.protocol.specs.Hall.{Process, Hall, fresh, find, without, changed, stand, move, with_processes, past_pivot, running, beginning, failed, standing_after, record_of}
 use Rattle.protocol.specs.StepFunction.{marked, performed}
 use Rattle.protocol.specs.Call.{Call}
 use Rattle.protocol.specs.CallFunction.{outcome}
 use Rattle.protocol.specs.Room.{Bounded}
-use Rattle.protocol.specs.Held.{Held, Rooms, Roomy}
-use Rattle.protocol.proofs.CallCases.{cases, Here}
+use Rattle.protocol.specs.Held.{Held, Roomy}
+use Rattle.protocol.proofs.CallCases.{cases}
 use Rattle.protocol.proofs.Members.{In, in_push, in_more, in_map, any_none}
-use Rattle.protocol.proofs.Processes.{found_start, from_map, to_map, from_changed, to_changed, find_without, from_without, from_push, to_push, some_same, none_some}
-use Rattle.protocol.proofs.LastRecords.{NotOf, Last, Loose, LooseIs, loose_is}
+use Rattle.protocol.proofs.Processes.{from_map, to_map, from_changed, to_changed, find_without, from_without, from_push, to_push, none_some}
+use Rattle.protocol.proofs.LastRecords.{NotOf, Last, LooseIs, loose_is}
 use Rattle.protocol.proofs.Rooms.{rooms_by, rooms_done, few}
 use Rattle.protocol.proofs.Counts.{length_push, NextRoom, next_room}
 use Rattle.protocol.proofs.Bounds.{bounded_outcome}

@@ -10,7 +10,7 @@ use Rattle.program.specs.Grammar.{Body}
 use Rattle.program.specs.Positions.{Position, into}
 use Rattle.protocol.specs.Ahead.{Next, nothing, plain, crossing, next}
 use Rattle.protocol.specs.Log.{owned, dropped, last_of, committed_under}
-use Rattle.protocol.specs.Hall.{Process, Hall, beginning}
+use Rattle.protocol.specs.Hall.{beginning}
 use Rattle.protocol.specs.declared.scan.Request.{Request}
 use Rattle.protocol.specs.Options.{when, else}
 use Rattle.protocol.specs.Call.{Call, loading, installing, opening, stepping, cancelling}

@@ -1,8 +1,6 @@
 -- What each call comes to, as a function. What the rules say is the relation in Comes.antt; that the two agree is proved.
-use Rattle.std.specs.Prelude.{ℕ, suc, ◌+◌, ◌*◌, Bool, true, false, cond, not, ◌&&◌, ◌||◌, List, [], ◌∷◌, ◌++◌, map, length, is_some, Some, None, Option, nat_eq, nat_le, nat_lt, slice_index_or}
+use Rattle.std.specs.Prelude.{ℕ, suc, ◌+◌, ◌*◌, Bool, cond, not, List, [], ◌∷◌, ◌++◌, length, is_some, Some, None, Option, nat_eq, nat_le, nat_lt, slice_index_or}
 use Rattle.protocol.specs.Options.{when, else}
-use Rattle.activity.specs.declared.Activity.{Activity}
-use Rattle.protocol.specs.declared.record.Record.{Record}
 use Rattle.protocol.specs.declared.scan.Request.{Request}
 use Rattle.protocol.specs.declared.standing.Standing.{Standing}
 use Rattle.protocol.specs.declared.standing.Aim.TheVariants.{End}

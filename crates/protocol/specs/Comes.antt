@@ -1,5 +1,5 @@
 -- What each call may come to, sentence by sentence; that each comes to exactly one thing is proved.
-use Rattle.std.specs.Prelude.{◌≡◌, ℕ, suc, ◌+◌, ◌*◌, ◌<◌, ◌≤◌, true, false, ◌⊎◌, List, [], ◌∷◌, length, Some, None, Option, ◌≢◌, slice_index_or}
+use Rattle.std.specs.Prelude.{◌≡◌, ℕ, suc, ◌+◌, ◌*◌, ◌<◌, ◌≤◌, true, false, List, [], ◌∷◌, length, Some, None, Option, ◌≢◌, slice_index_or}
 use Rattle.std.specs.List.{AllByRecursion as All}
 use Rattle.station.specs.Meaning.{Meaning}
 use Rattle.program.specs.declared.command.Kind.{Kind}

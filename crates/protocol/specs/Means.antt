@@ -1,5 +1,5 @@
 -- What a station's meaning says of records.
-use Rattle.std.specs.Prelude.{◌≡◌, ℕ, Bool, Some}
+use Rattle.std.specs.Prelude.{◌≡◌, Bool, Some}
 use Rattle.activity.specs.declared.Activity.{Activity}
 use Rattle.serial.specs.Actions as serial
 use Rattle.station.specs.Meaning.{Meaning, Restores, Commutes, Symmetric, AlwaysPossible, Bounded}

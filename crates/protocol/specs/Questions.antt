@@ -1,11 +1,11 @@
 -- Making, the questions, and closing.
-use Rattle.std.specs.Prelude.{ℕ, List, length, Option}
+use Rattle.std.specs.Prelude.{ℕ, length, Option}
 use Rattle.std.specs.Option.{option_map}
 use Rattle.program.specs.Places.{nth}
 use Rattle.protocol.specs.declared.record.Record.{Record}
 use Rattle.protocol.specs.declared.standing.Standing.{Standing}
 use Rattle.protocol.specs.Log.{orderly}
-use Rattle.protocol.specs.Hall.{Process, Hall, fresh, find}
+use Rattle.protocol.specs.Hall.{Hall, fresh, find}
 
 module _ {S : Type 0} where
   -- a hall is made over a station, with nothing in it

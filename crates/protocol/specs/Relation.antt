@@ -1,5 +1,5 @@
 -- What a step may come to, sentence by sentence.
-use Rattle.std.specs.Prelude.{◌≡◌, ℕ, suc, ◌<◌, ◌≤◌, Bool, true, false, ◌⊎◌, List, [], ◌∷◌, ◌++◌, map, Some, None, Option, ◌≢◌}
+use Rattle.std.specs.Prelude.{◌≡◌, ℕ, suc, ◌<◌, ◌≤◌, Bool, true, false, ◌⊎◌, List, [], ◌∷◌, ◌++◌, map, Some, None, ◌≢◌}
 use Rattle.activity.specs.declared.Activity.{Activity}
 use Rattle.protocol.specs.declared.record.Record.{Record}
 use Rattle.protocol.specs.declared.standing.Standing.{Standing}
@@ -10,7 +10,7 @@ use Rattle.protocol.specs.declared.answer.Turn.{Turn}
 use Rattle.protocol.specs.declared.answer.Turn.TheVariants as turns
 use Rattle.station.specs.Meaning.{Meaning}
 use Rattle.program.specs.Positions.{Position, alternative_of, into}
-use Rattle.protocol.specs.Ahead.{Next, nothing, plain, crossing, next}
+use Rattle.protocol.specs.Ahead.{nothing, plain, crossing, next}
 use Rattle.protocol.specs.Log.{Split, rejoined, removed, own, from_pivot, committed_under}
 use Rattle.protocol.specs.Hall.{Process, Hall, without, changed, stand, move, with_processes, beginning, past_pivot, record_of, standing_after, failed}
 

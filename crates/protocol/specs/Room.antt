@@ -1,5 +1,5 @@
 -- That the log has room, and that numbers and tables stay within their bounds.
-use Rattle.std.specs.Prelude.{ℕ, ◌+◌, ◌<◌, ◌≤◌, List, length}
+use Rattle.std.specs.Prelude.{◌+◌, ◌<◌, ◌≤◌, List, length}
 use Rattle.std.specs.List.{AllByRecursion as All}
 use Rattle.serial.specs.Sorts.{Pairwise}
 use Rattle.station.specs.Meaning.{Meaning}

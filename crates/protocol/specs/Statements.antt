@@ -14,7 +14,7 @@ use Rattle.protocol.specs.Call.{Call, Event, call, scan}
 use Rattle.protocol.specs.Comes.{Comes, Scans}
 use Rattle.program.specs.Places.{nth}
 use Rattle.protocol.specs.Questions.{kept_step}
-use Rattle.protocol.specs.Book.{Book, empty, Told, called, scan_served, scan_refused, book_of}
+use Rattle.protocol.specs.Book.{empty, Told, called, scan_served, scan_refused, book_of}
 
 -- what is told of a scan list: the records with their answers, or that it was refused
 abbrev pub scan_told : List Request → Option Refusal → Told

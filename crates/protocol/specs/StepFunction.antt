@@ -6,15 +6,14 @@ use Rattle.protocol.specs.declared.standing.Standing.{Standing}
 use Rattle.protocol.specs.declared.standing.Aim.TheVariants.{Restart, End}
 use Rattle.protocol.specs.declared.standing.Direction.TheVariants.{Forward, Back}
 use Rattle.protocol.specs.declared.standing.Standing.TheVariants.{Running, Withdrawing, PastPivot}
-use Rattle.protocol.specs.declared.answer.Answer.{Answer}
 use Rattle.protocol.specs.declared.answer.Answer.TheVariants.{Stepped, Refused}
 use Rattle.protocol.specs.declared.answer.Turn.TheVariants as turns
 use Rattle.protocol.specs.declared.answer.Refusal.TheVariants.{NoProcess}
 use Rattle.station.specs.Meaning.{Meaning}
 use Rattle.program.specs.Positions.{Position, alternative_of, into}
 use Rattle.protocol.specs.Ahead.{Next, nothing, plain, crossing, next}
-use Rattle.protocol.specs.Log.{any, owned, own, Split, rejoined, removed, returnable, from_pivot, committed_under}
-use Rattle.protocol.specs.Hall.{Process, Hall, find, without, changed, stand, move, with_processes, beginning, running, past_pivot, retreating, least, failed, standing_after, record_of, Outcome, answered}
+use Rattle.protocol.specs.Log.{any, owned, own, Split, removed, returnable, from_pivot, committed_under}
+use Rattle.protocol.specs.Hall.{Process, Hall, without, changed, stand, move, with_processes, beginning, running, past_pivot, retreating, least, failed, standing_after, record_of, Outcome, answered}
 
 -- the process n has a record that conflicts with the activity
 abbrev pub holds_conflict : (ℕ → ℕ → Bool) → ℕ → ℕ → List Record → Bool

@@ -1,4 +1,6 @@
 // The rules of the hall as definitions, and what is proved of them over every station. No code of a hall is here.
+#![tactic(auto)]
+
 mod answer;
 mod record;
 mod scan;

@@ -1,7 +1,7 @@
 -- The theorems of `specs/Statements.antt`.
-use Rattle.std.proofs.Common.{◌≡◌, ℕ, ◌<◌, Bool, true, false, not, ◌||◌, leb, List, ◌++◌, sym, refl, subst}
+use Rattle.std.proofs.Common.{◌≡◌, ℕ, false, not, ◌++◌, sym, subst}
 use Rattle.std.proofs.lemmas.Bool.{leb-false, or_parts, not-false}
-use Rattle.serial.specs.Sorts.{Pairwise, low_first, by_rank}
+use Rattle.serial.specs.Sorts.{low_first, by_rank}
 use Rattle.serial.specs.Replay.{Replays, Closed, Swap}
 use Rattle.serial.specs.Actions.{Meaning, KeepsGood, Commutes, Restores, Performs}
 use Rattle.serial.specs.Statements.{SortingReplays, SortingByRankReplays, LowOnesFirstReplays, TakingBackReplays}

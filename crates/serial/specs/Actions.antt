@@ -1,5 +1,5 @@
 -- Actions: what they do to a state, how they are taken back, which conflict, and the laws.
-use Rattle.std.specs.Prelude.{◌≡◌, ℕ, Bool, true, false, Some, None, Option}
+use Rattle.std.specs.Prelude.{◌≡◌, ℕ, Bool, true, false, Some, Option}
 
 pub record Meaning (A S : Type 0) : Type 0 where
   -- the answer and the next state, or nothing where the action is not possible

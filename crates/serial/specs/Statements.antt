@@ -1,5 +1,5 @@
 -- The theorems, over any records R, and any actions A on states S. Each record has an action and an answer.
-use Rattle.std.specs.Prelude.{◌≡◌, ℕ, ◌<◌, Bool, true, false, not, List, [], ◌∷◌, ◌++◌, filter}
+use Rattle.std.specs.Prelude.{◌≡◌, ℕ, ◌<◌, Bool, true, false, not, List, ◌∷◌, ◌++◌, filter}
 use Rattle.std.specs.List.{AllByRecursion as All}
 use Rattle.serial.specs.Sorts.{Pairwise, Sorted, records_of, sort, by_rank, StableSort, StableSortByRank}
 use Rattle.serial.specs.Replay.{Replays}

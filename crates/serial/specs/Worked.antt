@@ -1,5 +1,5 @@
 -- An account worked through: the laws can be met, a log in its serial order, a deposit taken back, and what goes wrong where records conflict.
-use Rattle.std.specs.Prelude.{◌≡◌, ℕ, ◌+◌, ◌-◌, Bool, true, false, cond, not, List, [], ◌∷◌, Some, None, ◌==◌}
+use Rattle.std.specs.Prelude.{◌≡◌, ℕ, ◌+◌, ◌-◌, true, cond, not, List, [], ◌∷◌, Some, ◌==◌}
 use Rattle.serial.specs.Sorts.{sort, by_rank}
 use Rattle.serial.specs.Replay.{Replays}
 use Rattle.serial.specs.Actions.{Meaning, KeepsGood, Commutes, Restores, Performs}

@@ -1,5 +1,7 @@
 // Logs of records of actions, and the serial order of a log: what may change its place, or be taken back, without changing where the log leads.
 // Knows neither who asks for actions nor what they work on.
+#![tactic(auto)]
+
 ghost use Rattle.serial.specs.Actions.{Meaning, KeepsGood, Commutes, Restores};
 ghost use Rattle.serial.specs.Worked.{WorkedAccount};
 ghost use Rattle.serial.specs.Statements.{SortingSorts, SortingByRankSorts, OneSerialOrder, SortingReplays, SortingByRankReplays, LowOnesFirstReplays, TakingBackReplays};

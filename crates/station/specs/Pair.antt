@@ -1,5 +1,5 @@
 -- What a pair of stations means.
-use Rattle.std.specs.Prelude.{ℕ, ◌-◌, Bool, true, false, cond, None, Option, nat_lt}
+use Rattle.std.specs.Prelude.{ℕ, ◌-◌, Bool, false, cond, None, Option, nat_lt}
 use Rattle.activity.specs.declared.Activity.{Activity}
 use Rattle.station.specs.declared.pair.Half.{Half}
 use Rattle.station.specs.declared.pair.Half.TheVariants.{First, Second, Neither}

@@ -1,6 +1,6 @@
 -- A pair keeps the laws of its two stations.
-use Rattle.std.specs.Prelude.{◌≡◌, ℕ, ◌-◌, ◌≤◌, true, false, cond, is_some, Some, None, nat_lt, refl}
-use Rattle.std.proofs.Common.{sym, ap, ◌∙◌, arith}
+use Rattle.std.specs.Prelude.{◌≡◌, ℕ, ◌-◌, ◌≤◌, true, false, cond, is_some, Some, nat_lt, refl}
+use Rattle.std.proofs.Common.{ap, ◌∙◌, arith}
 use Rattle.std.proofs.lemmas.Bool.{le-ltb}
 use Rattle.activity.specs.declared.Activity.{Activity}
 use Rattle.station.specs.declared.pair.Half.{Half}

@@ -1,4 +1,6 @@
 // Stations: a state that activities change, with two stations that are made of others.
+#![tactic(auto)]
+
 mod pair;
 mod renumbering;
 mod station;

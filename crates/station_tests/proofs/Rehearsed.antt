@@ -1,5 +1,5 @@
 -- An activity performed and taken back at once: what is left, and by the first law that it is what was before.
-use Rattle.std.proofs.Common.{◌≡◌, ℕ, true, Some, None, Option, sym, refl, ap, ◌∙◌}
+use Rattle.std.proofs.Common.{◌≡◌, ℕ, true, Some, None, Option, sym, refl, ◌∙◌}
 use Rattle.activity.specs.declared.Activity.{Activity}
 use Rattle.station.specs.Meaning.{Meaning, Restores, answer_of, state_after}
 use Rattle.station.specs.Part.{outcome}

@@ -1,4 +1,6 @@
 // Runs of the stations: their whole catalogues, the constants, and the edges of what is possible.
+#![tactic(auto)]
+
 ghost use Rattle.std.specs.Prelude.{◌≡◌, true};
 ghost use Rattle.station.specs.Meaning.{answer_of};
 ghost use Rattle.station_tests.specs.Rehearsal.{rehearsed_state};

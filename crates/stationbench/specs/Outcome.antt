@@ -1,5 +1,5 @@
 -- What a line gives at a station, and what it does to it.
-use Rattle.std.specs.Prelude.{ℕ, Bool, true, false, cond, Some, None, Option, nat_lt}
+use Rattle.std.specs.Prelude.{ℕ, cond, Some, None, Option, nat_lt}
 use Rattle.station.specs.Meaning.{Meaning, answer_of, state_after}
 use Rattle.bench_lines.specs.declared.Line.{Line}
 use Rattle.bench_lines.specs.declared.Line.TheVariants.{Blank, Perform, TakeBack, Conflict, Kinds, State}

@@ -1,4 +1,6 @@
 // Works the rig's station by hand: reads lines from standard input, and says what each of them gave.
+#![tactic(auto)]
+
 ghost use Rattle.std.specs.Prelude.{◌≡◌};
 ghost use Rattle.baggage.specs.Lanes.{first_lanes};
 ghost use Rattle.baggage.specs.Register.{first_register};

@@ -1,5 +1,7 @@
 // textcheck: reads program texts in the written notation, one to a line, and says of each what it is:
 // the program as a tree, or the refusal with its number, its place and why.
+#![tactic(auto)]
+
 mod help;
 mod lines;
 mod tree;

@@ -5,9 +5,7 @@ use native.Mathlib.Decide.{dec_le}
 use Rattle.program.specs.Worked.{WorkedTexts}
 use Rattle.baggage.specs.Lanes.{first_lanes, lane_of, with_lane}
 use Rattle.protocol.specs.Hall.{fresh}
-use Rattle.protocol.specs.Call.{Event}
 use Rattle.protocol.specs.CallFunction.{after_all}
-use Rattle.protocol.specs.Book.{Told}
 use Rattle.protocol.specs.Statements.{Runs}
 use Rattle.protocol.proofs.Computed.{history}
 use Rattle.protocol.proofs.EveryRun.{computed_runs}

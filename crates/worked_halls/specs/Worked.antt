@@ -1,5 +1,5 @@
 -- Halls worked through by hand: each call and scan list with what is told of it.
-use Rattle.std.specs.Prelude.{◌≡◌, refl, List, [], ◌∷◌, map, ℕ}
+use Rattle.std.specs.Prelude.{refl, List, [], ◌∷◌, map, ℕ}
 use Rattle.std.proofs.Common.{lit≤}
 use Rattle.activity.specs.declared.Activity.{Activity}
 use Rattle.program.specs.Grammar.{Body, finish, compensatable, pivot, row, or_else}

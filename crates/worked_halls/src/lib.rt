@@ -1,4 +1,6 @@
 // Halls worked through by hand, from the first call to the last answer.
+#![tactic(auto)]
+
 ghost use Rattle.worked_halls.specs.Worked.{WorkedHalls};
 
 use program::worked_texts;

@@ -1,4 +1,4 @@
-use Rattle.std.proofs.Common.{◌≡◌, ℕ, ◌+◌, cond, List, [], ◌∷◌, ◌++◌, length, get_or, drop, Some, None, Ok, Err, vec_items, Option, Result, sym, refl, ap, ◌∙◌, subst, append-nil, arith, rules}
+use Rattle.std.proofs.Common.{◌≡◌, ℕ, ◌+◌, cond, List, [], ◌∷◌, ◌++◌, length, get_or, drop, None, Ok, Err, vec_items, Option, Result, sym, ap, ◌∙◌, subst, append-nil, arith}
 use Rattle.notation.specs.Notation.{Low, taken, with_front, read_on, ended, bytes_from, bytes_of}
 use Rattle.notation.specs.declared.decoding.Taken.{Taken}
 use Rattle.notation.specs.declared.decoding.Taken.TheVariants.{Passed, Waits, Gives, Wrong}

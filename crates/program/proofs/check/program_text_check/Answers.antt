@@ -1,4 +1,4 @@
-use Rattle.std.proofs.Common.{arith, rules}
+use Rattle.std.proofs.Common.{rules}
 use Rattle.program.proofs.Places.{refused_place, number_bound}
 use Rattle.program.proofs.check.program_text_check.Goals as goal
 

@@ -1,7 +1,6 @@
-use Rattle.std.proofs.Common.{◌≡◌, ℕ, sym, refl, ap, ◌∙◌, arith}
+use Rattle.std.proofs.Common.{◌≡◌, ℕ, refl, ◌∙◌, arith}
 use Rattle.program.specs.declared.command.Command.TheVariants.{Stop}
-use Rattle.program.specs.Contexts.{Context, over, nowhere}
-use Rattle.program.specs.Reads.{context, text_of}
+use Rattle.program.specs.Contexts.{over, nowhere}
 use Rattle.program.proofs.Parts.{ready_next}
 use Rattle.program.proofs.Places.{finished, followed, yielded}
 use Rattle.program.proofs.reader.parse.Goals as goal

@@ -1,4 +1,4 @@
-use Rattle.std.proofs.Common.{Some, None, sym, ap, ◌∙◌}
+use Rattle.std.proofs.Common.{Some, None, ap}
 use Rattle.program.specs.Places.{body_at, tree}
 use Rattle.program.specs.Outcome.{OutcomeBy}
 use Rattle.program.proofs.Unique.{accepts, once}

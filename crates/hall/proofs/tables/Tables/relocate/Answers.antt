@@ -1,5 +1,5 @@
 use Rattle.std.proofs.Common.{◌<◌, length, refl, ap, arith}
-use Rattle.protocol.specs.Hall.{with_processes, stand, move}
+use Rattle.protocol.specs.Hall.{with_processes, move}
 use Rattle.hall.specs.Model.{model, position_at}
 use Rattle.hall.proofs.Entries.{set_is}
 use Rattle.hall.proofs.tables.Tables.relocate.Goals as goal

@@ -1,6 +1,6 @@
 use Rattle.std.proofs.Common.{◌<◌, length, refl, ap, arith}
-use Rattle.protocol.specs.Hall.{with_processes, stand, move}
-use Rattle.hall.specs.Model.{model, position_at}
+use Rattle.protocol.specs.Hall.{with_processes, stand}
+use Rattle.hall.specs.Model.{model}
 use Rattle.hall.proofs.Entries.{set_is}
 use Rattle.hall.proofs.tables.Tables.restand.Goals as goal
 

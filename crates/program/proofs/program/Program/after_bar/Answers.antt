@@ -1,4 +1,4 @@
-use Rattle.std.proofs.Common.{◌≡◌, ◌+◌, ◌∷◌, drop, sym, ap, ◌∙◌, arith}
+use Rattle.std.proofs.Common.{◌+◌, ◌∷◌, drop, sym, ap, ◌∙◌, arith}
 use Rattle.program.specs.Places.{program_commands, skip}
 use Rattle.program.proofs.Cursors.{command_there, none_there}
 use Rattle.program.proofs.program.Program.after_bar.Goals as goal

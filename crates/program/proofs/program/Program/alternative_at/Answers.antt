@@ -1,4 +1,4 @@
-use Rattle.std.proofs.Common.{◌≡◌, suc, ◌+◌, ◌-◌, ◌≤◌, drop, sym, ap, ◌∙◌, arith}
+use Rattle.std.proofs.Common.{◌≡◌, suc, ◌+◌, ◌-◌, drop, sym, ap, ◌∙◌, arith}
 use Rattle.program.specs.Positions.{alternative, reached}
 use Rattle.program.specs.Places.{program_commands, choices_at, skipped}
 use Rattle.program.proofs.Cursors.{body_turns, row_stays, row_reached, body_reached, none_reached, before_end, row_skipped, body_skipped}

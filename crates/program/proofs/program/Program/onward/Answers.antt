@@ -1,4 +1,4 @@
-use Rattle.std.proofs.Common.{sym, ap, ◌∙◌, arith}
+use Rattle.std.proofs.Common.{ap, ◌∙◌, arith}
 use Rattle.program.specs.Places.{program_commands, position, placed, left_at, left_in, left_after}
 use Rattle.program.proofs.Cursors.{none_there, at_end, stays, plain_on, crossing_on, plain_left, crossing_left}
 use Rattle.program.proofs.program.Program.onward.Goals as goal

@@ -1,4 +1,4 @@
-use Rattle.std.proofs.Common.{◌≡◌, ◌+◌, ◌≤◌, take, sym, ap, ◌∙◌, add-zero, arith, rules}
+use Rattle.std.proofs.Common.{◌≡◌, ◌+◌, take, sym, ap, ◌∙◌, add-zero, arith, rules}
 use Rattle.program.specs.Refusals.{step_count}
 use Rattle.program.specs.Grammar.{body_steps}
 use Rattle.program.specs.Places.{program_commands, nth, tree}

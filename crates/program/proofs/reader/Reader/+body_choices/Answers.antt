@@ -1,8 +1,8 @@
-use Rattle.std.proofs.Common.{◌≡◌, ℕ, suc, ◌+◌, ◌<◌, ◌≤◌, length, sym, refl, ap, ◌∙◌, subst, add-one, arith, rules}
-use Rattle.program.specs.declared.command.Command.TheVariants.{C, P, Open, Bar, Close}
-use Rattle.program.specs.Contexts.{Context, at_pivot, at_choice, closed, nowhere, end_mark, after_end, go}
-use Rattle.program.specs.Reads.{text_of, byte_at, context, Ready}
-use Rattle.program.proofs.Parts.{step_fits, step_next, pushed_context, choice_goes_on, row_begins, ready_next, choice_level, low, moved_on, moved_more}
+use Rattle.std.proofs.Common.{◌≡◌, ℕ, length, refl, ap, ◌∙◌, subst, add-one, arith, rules}
+use Rattle.program.specs.declared.command.Command.TheVariants.{P, Open, Bar, Close}
+use Rattle.program.specs.Contexts.{at_pivot, at_choice, closed, nowhere, end_mark, after_end, go}
+use Rattle.program.specs.Reads.{Ready}
+use Rattle.program.proofs.Parts.{step_fits, step_next, pushed_context, choice_goes_on, ready_next, choice_level}
 use Rattle.program.proofs.reader.Reader.+body_choices.Goals as goal
 use Rattle.program.proofs.reader.Reader.+body_choices.Goals.{choices-in_default-via-in-Some+in_default, choices-in_default-via-in_default}
 

@@ -1,4 +1,4 @@
-use Rattle.std.proofs.Common.{◌≡◌, ◌-◌, ◌≤◌, length}
+use Rattle.std.proofs.Common.{◌-◌, length}
 use Rattle.program.specs.Reads.{text_of, Moved, BodyNext}
 use Rattle.program.proofs.reader.Reader.compensatable_steps.Given as goal
 

@@ -1,6 +1,4 @@
-use Rattle.std.proofs.Common.{◌≡◌, ℕ, sym, refl, ap, ◌∙◌, arith, rules}
-use Rattle.program.specs.Grammar.{mark}
-use Rattle.program.specs.Reads.{byte_at}
+use Rattle.std.proofs.Common.{sym, ◌∙◌, arith, rules}
 use Rattle.program.proofs.Places.{width}
 use Rattle.program.proofs.Parts.{mark_fits, pushed_context}
 use Rattle.program.proofs.reader.Reader.expect.Goals as goal

@@ -1,10 +1,9 @@
-use Rattle.std.proofs.Common.{◌≡◌, ℕ, ◌+◌, ◌<◌, ◌≤◌, length, sym, refl, ap, ◌∙◌, arith, rules}
-use Rattle.program.specs.Grammar.{mark}
+use Rattle.std.proofs.Common.{◌≡◌, ℕ, sym, refl, ap, ◌∙◌, arith, rules}
 use Rattle.program.specs.Refusals.{opened}
-use Rattle.program.specs.Contexts.{Context, at_pivot, at_choice, nowhere, go}
+use Rattle.program.specs.Contexts.{at_pivot, at_choice, nowhere, go}
 use Rattle.program.specs.declared.command.Command.TheVariants.{Open}
 use Rattle.program.specs.declared.reader.Reader.{Reader}
-use Rattle.program.specs.Reads.{byte_at, context, commands_of, text_of, Sound, MarkNext}
+use Rattle.program.specs.Reads.{context, commands_of, Sound}
 use Rattle.program.proofs.Places.{somewhere, too_deep}
 use Rattle.program.proofs.Parts.{level, low, at_open}
 use Rattle.program.proofs.Trees.{level_of}

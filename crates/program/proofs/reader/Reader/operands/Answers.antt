@@ -1,5 +1,5 @@
-use Rattle.std.proofs.Common.{◌≡◌, ◌+◌, ◌<◌, ◌≤◌, ◌∷◌, length, get_or, sym, ◌∙◌, arith}
-use Rattle.program.proofs.Places.{too_many, cut_off, four, spelled_operands}
+use Rattle.std.proofs.Common.{arith}
+use Rattle.program.proofs.Places.{too_many, cut_off, spelled_operands}
 use Rattle.program.proofs.reader.Reader.operands.Goals as goal
 
 pub returns-then-self-eq-MAX_STEPS : goal.returns-then-self-eq-MAX_STEPS
