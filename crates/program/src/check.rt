@@ -1,11 +1,10 @@
-// The check of a program text for callers in C.
+// The check of a program text for callers in C, which call it through the static library `program_c`.
 ghost use Rattle.program.specs.Outcome.{Checked};
 
 use crate::reader::parse;
 
-// 0 where the text is read, and else the refusal's number × 65,536 and its place. C sees a pointer and a length.
-#[unsafe(no_mangle)]
-pub extern "C" fn program_text_check(text: &[u8]) -> u32
+// 0 where the text is read, and else the refusal's number × 65,536 and its place.
+pub fn program_text_check(text: &[u8]) -> u32
     ensures { Checked text.now result }
 {
     match parse(text) {
