@@ -1,7 +1,7 @@
 -- A row of cells keeps the laws that its cells keep.
 use Rattle.std.specs.Prelude.{◌≡◌, ℕ, zero, suc, ◌<◌, ◌≤◌, Bool, true, false, cond, ◌≢◌, List, [], ◌∷◌, length, is_some, Some, None, Option, MatchOption, nat_lt, refl}
 use Rattle.std.proofs.Common.{sym, ap, ◌∙◌, subst, ⊎_elim, arith}
-use Rattle.std.specs.List.{AllByRecursion as All}
+use Rattle.std.specs.List.{AllByRecursion}
 use Rattle.std.proofs.lemmas.Bool.{ltb-true, cases_eq}
 use Rattle.station.specs.Meaning.{Restores, Commutes, Symmetric, AlwaysPossible, Bounded, lifted}
 use Rattle.station.specs.Part.{parts, outcome, Part, Swap, inside, back, swap_over, swap_apart, lifted_possible}
@@ -90,7 +90,7 @@ module _ {W C K : Type 0} (r : Row W C K) where
         ap (r.put t (r.place p)) (law p x (cell.get s) (cell.get t) i.0) ∙ back cell s t i.1
     restores_at (Some k) law p x s t false lt e = (still_is (r.anywhere k) s t x e).2
 
-    pub restores : All (Named Undone) r.listing.compensatables → Restores (in_row r)
+    pub restores : AllByRecursion (Named Undone) r.listing.compensatables → Restores (in_row r)
     restores law s t a x c e =
         restores_at (entry r.names a.number) (of_listed (Named Undone) r.listing.compensatables law a.number c) a.parameter x s t (nat_lt (r.place a.parameter) r.cells) refl e
 
@@ -111,7 +111,7 @@ module _ {W C K : Type 0} (r : Row W C K) where
   retries_at (Some k) law p s true = lifted_possible (r.put s (r.place p)) _ (law.0 p (r.get s (r.place p)))
   retries_at (Some k) law p s false = still_possible (r.anywhere k) s law.1
 
-  pub retries : All (Named Ready) r.listing.retriables → AlwaysPossible (in_row r)
+  pub retries : AllByRecursion (Named Ready) r.listing.retriables → AlwaysPossible (in_row r)
   retries law s a c =
       retries_at (entry r.names a.number) (of_listed (Named Ready) r.listing.retriables law a.number c) a.parameter s (nat_lt (r.place a.parameter) r.cells)
 

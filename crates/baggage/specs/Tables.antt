@@ -2,7 +2,7 @@
 use Rattle.std.specs.Prelude.{◌≡◌, ℕ, zero, suc, ◌+◌, ◌<◌, ◌≤◌, Bool, true, false, cond, ◌&&◌, List, [], ◌∷◌, Some, ◌==◌, nat_lt, slice_index_or, refl}
 use Rattle.std.proofs.Common.{ap, sym, subst, ◌∙◌, ⊎_elim, add-zero, zero-add, add-suc, suc-add, arith}
 use Rattle.std.proofs.lemmas.Bool.{and_parts, and_left, and_right, or_cases, or_from, eqb-true, ne_eqb, ltb-true, le-ltb, false≢true, cases_eq, cases_lt}
-use Rattle.std.specs.List.{AllByRecursion as All}
+use Rattle.std.specs.List.{AllByRecursion}
 use Rattle.baggage.specs.declared.catalogue.Catalogue.{Catalogue}
 use Rattle.baggage.specs.Tabled.{Listing, listed, matched, neither, kind_at, conflict_at, each_below, alike, all_below, pairs_below, proper, agrees, Agreed}
 use Rattle.baggage.specs.Row.{entry}
@@ -142,7 +142,7 @@ pub at : {X : Type 0} (f : ℕ → X → Bool) (xs : List X) → every f 0 xs �
 at f xs t n x e = subst (λ (k : ℕ). f k x ≡ true) (zero-add n) (from f xs 0 n x t e)
 
 -- what holds of each number of a list holds of one that is listed
-pub of_listed : (P : ℕ → Type 0) (ks : List ℕ) → All P ks → (n : ℕ) → listed ks n ≡ true → P n
+pub of_listed : (P : ℕ → Type 0) (ks : List ℕ) → AllByRecursion P ks → (n : ℕ) → listed ks n ≡ true → P n
 of_listed P [] a n e = absurd (false≢true e)
 of_listed P (k ∷ ks) a n e =
     ⊎_elim (λ h. subst P (sym (eqb-true n k h)) a.0) (of_listed P ks a.1 n) (or_cases (n == k) (listed ks n) e)

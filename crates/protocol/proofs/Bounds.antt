@@ -1,6 +1,6 @@
 -- Every call keeps numbers and tables within their bounds.
 use Rattle.std.proofs.Common.{◌≡◌, ℕ, suc, ◌+◌, ◌*◌, ◌<◌, ◌≤◌, Bool, true, false, cond, not, ◌&&◌, eqb, ltb, leb, List, [], ◌∷◌, ◌++◌, map, length, get_or, is_some, Some, None, filter, Option, sym, refl, subst, arith}
-use Rattle.std.specs.List.{AllByRecursion as All}
+use Rattle.std.specs.List.{AllByRecursion}
 use Rattle.std.proofs.ByRecursion.{All-weaker}
 use Rattle.std.proofs.lemmas.Bool.{leb-false}
 use Rattle.serial.specs.Sorts.{Pairwise}
@@ -27,19 +27,19 @@ use Rattle.protocol.proofs.Promise.{all_is}
 
 -- lists that were changed
 
-all_map : (P : Process → Type 0) (f : Process → Process) → ((q : Process) → P q → P (f q)) → (ps : List Process) → All P ps → All P (map f ps)
+all_map : (P : Process → Type 0) (f : Process → Process) → ((q : Process) → P q → P (f q)) → (ps : List Process) → AllByRecursion P ps → AllByRecursion P (map f ps)
 all_map P f g [] h = tt
 all_map P f g (p ∷ ps) h = (g p h.0, all_map P f g ps h.1)
 
 rising_map : (f : Process → Process) → ((q : Process) → (f q).start ≡ q.start) → (ps : List Process) → Pairwise (λ a b. a.start < b.start) ps → Pairwise (λ a b. a.start < b.start) (map f ps)
 rising_map f keeps [] h = tt
-rising_map f keeps (p ∷ ps) h = (subst (λ n. All (λ b. n < b.start) (map f ps)) (sym (keeps p)) (all_map (λ b. p.start < b.start) f (λ q x. subst (λ n. p.start < n) (sym (keeps q)) x) ps h.0), rising_map f keeps ps h.1)
+rising_map f keeps (p ∷ ps) h = (subst (λ n. AllByRecursion (λ b. n < b.start) (map f ps)) (sym (keeps p)) (all_map (λ b. p.start < b.start) f (λ q x. subst (λ n. p.start < n) (sym (keeps q)) x) ps h.0), rising_map f keeps ps h.1)
 
-all_kept : (P : Process → Type 0) (t : Process → Bool) (ps : List Process) → All P ps → All P (filter t ps)
+all_kept : (P : Process → Type 0) (t : Process → Bool) (ps : List Process) → AllByRecursion P ps → AllByRecursion P (filter t ps)
 all_kept P t [] h = tt
 all_kept P t (p ∷ ps) h = go (t p) (all_kept P t ps h.1)
   where
-    go : (b : Bool) → All P (filter t ps) → All P (cond b (p ∷ filter t ps) (filter t ps))
+    go : (b : Bool) → AllByRecursion P (filter t ps) → AllByRecursion P (cond b (p ∷ filter t ps) (filter t ps))
     go true r = (h.0, r)
     go false r = r
 
@@ -51,11 +51,11 @@ rising_kept t (p ∷ ps) h = go (t p) (rising_kept t ps h.1)
     go true r = (all_kept (λ b. p.start < b.start) t ps h.0, r)
     go false r = r
 
-all_push : (P : Process → Type 0) (ps : List Process) (q : Process) → All P ps → P q → All P (ps ++ q ∷ [])
+all_push : (P : Process → Type 0) (ps : List Process) (q : Process) → AllByRecursion P ps → P q → AllByRecursion P (ps ++ q ∷ [])
 all_push P [] q h x = (x, tt)
 all_push P (p ∷ ps) q h x = (h.0, all_push P ps q h.1 x)
 
-rising_push : (ps : List Process) (q : Process) → Pairwise (λ a b. a.start < b.start) ps → All (λ p. p.start < q.start) ps → Pairwise (λ a b. a.start < b.start) (ps ++ q ∷ [])
+rising_push : (ps : List Process) (q : Process) → Pairwise (λ a b. a.start < b.start) ps → AllByRecursion (λ p. p.start < q.start) ps → Pairwise (λ a b. a.start < b.start) (ps ++ q ∷ [])
 rising_push [] q h x = (tt, tt)
 rising_push (p ∷ ps) q h x = (all_push (λ b. p.start < b.start) ps q h.0 x.0, rising_push ps q h.1 x.1)
 

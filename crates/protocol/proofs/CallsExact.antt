@@ -1,6 +1,6 @@
 -- Each call comes to exactly one thing: what the function gives is what the relation allows.
 use Rattle.std.proofs.Common.{◌≡◌, ℕ, suc, Bool, true, false, cond, not, eqb, ltb, leb, List, [], ◌∷◌, length, get_or, is_some, Some, None, Option, sym, refl, ap, ◌∙◌, subst, inl, inr, arith}
-use Rattle.std.specs.List.{AllByRecursion as All}
+use Rattle.std.specs.List.{AllByRecursion}
 use Rattle.std.proofs.lemmas.Bool.{false≢true, both_ways, not-true, not_from_false, ltb-true, ltb-false, leb-true, leb-false, lt-ltb, le-ltb, le-leb, lt-leb, eqb-true, eq-eqb, or_cases}
 use Rattle.station.specs.Meaning.{Meaning}
 use Rattle.program.specs.declared.command.Kind.{Kind}
@@ -65,7 +65,7 @@ module _ {S : Type 0} (M : Meaning S) where
   step_fits i s false false e f rest g = absurd (no_some g)
   step_fits i s false true e f rest g = (record { exists = leb-false M.activities s.activity.number e; kind = kind_fits s.kind s.activity.number f }, g)
 
-  all_fit : (i : ℕ) (ss : List Step) → faults M i ss ≡ None → All (Fits M) ss
+  all_fit : (i : ℕ) (ss : List Step) → faults M i ss ≡ None → AllByRecursion (Fits M) ss
   all_fit i [] e = tt
   all_fit i (s ∷ ss) e =
       let (here, rest) = step_fits i s (leb M.activities s.activity.number) (fits M s.kind s.activity.number) refl refl (faults M (suc i) ss) e in
@@ -83,7 +83,7 @@ module _ {S : Type 0} (M : Meaning S) where
   fit_checked : (i : ℕ) (s : Step) (rest : Option Refusal) → Fits M s → else (fault M i s) rest ≡ rest
   fit_checked i s rest f = λ j. checked i (lt-leb M.activities s.activity.number f.exists j) (fits_kind s.kind s.activity.number f.kind j) rest
 
-  no_faults : (i : ℕ) (ss : List Step) → All (Fits M) ss → faults M i ss ≡ None
+  no_faults : (i : ℕ) (ss : List Step) → AllByRecursion (Fits M) ss → faults M i ss ≡ None
   no_faults i [] all = refl
   no_faults i (s ∷ ss) (f, all) = fit_checked i s (faults M (suc i) ss) f ∙ no_faults (suc i) ss all
 

@@ -1,13 +1,13 @@
 -- What stands in a list, and what stands before what.
 use Rattle.std.proofs.Common.{◌≡◌, Bool, true, false, cond, ◌&&◌, ◌||◌, ◌⊎◌, List, [], ◌∷◌, ◌++◌, map, filter, sym, refl, ap, ◌∙◌, inl, inr, ⊎_elim}
 use Rattle.std.proofs.lemmas.Bool.{or_parts, or_left, or_right, or_from}
-use Rattle.std.specs.List.{AllByRecursion as All}
+use Rattle.std.specs.List.{AllByRecursion}
 use Rattle.serial.specs.Sorts.{Pairwise}
 use Rattle.protocol.specs.Log.{any}
 pub use Rattle.protocol.specs.Relation.{In, Before}
 
 module _ {X : Type 0} where
-  pub all_from : (P : X → Type 0) (xs : List X) → ((x : X) → In x xs → P x) → All P xs
+  pub all_from : (P : X → Type 0) (xs : List X) → ((x : X) → In x xs → P x) → AllByRecursion P xs
   all_from P [] f = tt
   all_from P (x ∷ xs) f = (f x (inl refl), all_from P xs (λ y i. f y (inr i)))
 

@@ -1,7 +1,7 @@
 -- The same by places in tables, as code has them.
 use Rattle.std.proofs.Common.{◌≡◌, ℕ, zero, suc, ◌<◌, min, Bool, true, false, cond, not, eqb, List, [], ◌∷◌, ◌++◌, length, get_or, take, drop, set, Some, None, Option, refl, ap, ◌∙◌, arith}
 use lib.Seq.{split_at}
-use Rattle.std.specs.List.{AllByRecursion as All}
+use Rattle.std.specs.List.{AllByRecursion}
 use Rattle.std.proofs.lemmas.Bool.{eq-eqb, ne_eqb}
 use Rattle.serial.specs.Sorts.{Pairwise}
 use Rattle.protocol.specs.declared.record.Record.{Record}
@@ -15,16 +15,16 @@ abbrev pub Rising : List Process → Type 0
 Rising ps = Pairwise (λ a b. a.start < b.start) ps
 
 -- what a place has stands after the first
-above : (n : ℕ) (ps : List Process) (i : ℕ) (d : Process) → i < length ps → All (λ b. n < b.start) ps → n < (get_or ps i d).start
+above : (n : ℕ) (ps : List Process) (i : ℕ) (d : Process) → i < length ps → AllByRecursion (λ b. n < b.start) ps → n < (get_or ps i d).start
 above n [] i d h all = absurd (omega arith)
 above n (p ∷ ps) zero d h all = all.0
 above n (p ∷ ps) (suc i) d h all = above n ps i d (omega arith) all.1
 
-untold : (n : ℕ) (f : Process → Process) (ps : List Process) → All (λ b. n < b.start) ps → changed n f ps ≡ ps
+untold : (n : ℕ) (f : Process → Process) (ps : List Process) → AllByRecursion (λ b. n < b.start) ps → changed n f ps ≡ ps
 untold n f [] all = refl
 untold n f (p ∷ ps) all = λ i. ap (λ b. cond b (f p) p) (ne_eqb p.start n (λ (e : p.start ≡ n). omega (arith, all.0))) i ∷ untold n f ps all.1 i
 
-all_there : (n : ℕ) (ps : List Process) → All (λ b. n < b.start) ps → without n ps ≡ ps
+all_there : (n : ℕ) (ps : List Process) → AllByRecursion (λ b. n < b.start) ps → without n ps ≡ ps
 all_there n [] all = refl
 all_there n (p ∷ ps) all = ap (λ b. cond (not b) (p ∷ without n ps) (without n ps)) (ne_eqb p.start n (λ (e : p.start ≡ n). omega (arith, all.0))) ∙ ap (λ l. p ∷ l) (all_there n ps all.1)
 

@@ -1,6 +1,6 @@
 -- What comes next fits.
 use Rattle.std.proofs.Common.{◌≡◌, ℕ, zero, suc, Bool, true, false, eqb, ltb, List, [], ◌∷◌, ◌++◌, Some, None, Option, sym, refl}
-use Rattle.std.specs.List.{AllByRecursion as All}
+use Rattle.std.specs.List.{AllByRecursion}
 use Rattle.std.proofs.lemmas.Bool.{true≢false, false≢true, not-false}
 use Rattle.protocol.specs.Options.{when, else}
 use Rattle.activity.specs.declared.Activity.{Activity}
@@ -94,7 +94,7 @@ module _ {S : Type 0} (M : Meaning S) where
   slot_fits i s e = not-false _ (when_none _ _ (else_none _ _ e).1)
 
   abbrev Faultless : List Step → Type 0
-  Faultless ss = All (λ s. fits M s.kind s.activity.number ≡ true) ss
+  Faultless ss = AllByRecursion (λ s. fits M s.kind s.activity.number ≡ true) ss
 
   pub faultless : (i : ℕ) (ss : List Step) → faults M i ss ≡ None → Faultless ss
   faultless i [] e = tt

@@ -21,7 +21,7 @@ use Rattle.program.specs.Places.{nth}
 use Rattle.protocol.specs.Statements.{Agree, Orderly, without_commit_number, Begins, Fixed}
 use Rattle.protocol.proofs.Computed.{hall_after, book_after, history}
 use Rattle.protocol.proofs.Members.{pairs_from, all_from, before_first, before_second}
-use Rattle.std.specs.List.{AllByRecursion as All}
+use Rattle.std.specs.List.{AllByRecursion}
 use Rattle.protocol.proofs.Sound.{Sound}
 use Rattle.protocol.proofs.StandingChanges.{sound_fresh}
 use Rattle.protocol.proofs.History.{history_is, sound_events}
@@ -117,7 +117,7 @@ module _ {S : Type 0} (M : Meaning S) (laws : Laws M) where
   one_orderly : (s : S) (h : Hall S) → Sound M s h → (run : List Record) → Orderly h.log run → run ≡ orderly h.log
   one_orderly s h sound run o =
       one_serial_order (prior (pivoted h.log)) (λ r. r.start) run (orderly h.log) o.sorted (sorted_orderly h.log) (λ n. o.each n ∙ sym (own_orderly n s h sound))
-      (all_from (λ a. All (λ b. prior (pivoted h.log) a b ≡ true → prior (pivoted h.log) b a ≡ true → a.start ≡ b.start) (orderly h.log)) run λ a i. all_from (λ b. prior (pivoted h.log) a b ≡ true → prior (pivoted h.log) b a ≡ true → a.start ≡ b.start) (orderly h.log) λ b j. tied (pivoted h.log) a b (sound.numbers a b (in_own run h.log o.each a i) (in_own (orderly h.log) h.log (λ n. own_orderly n s h sound) b j)))
+      (all_from (λ a. AllByRecursion (λ b. prior (pivoted h.log) a b ≡ true → prior (pivoted h.log) b a ≡ true → a.start ≡ b.start) (orderly h.log)) run λ a i. all_from (λ b. prior (pivoted h.log) a b ≡ true → prior (pivoted h.log) b a ≡ true → a.start ≡ b.start) (orderly h.log) λ b j. tied (pivoted h.log) a b (sound.numbers a b (in_own run h.log o.each a i) (in_own (orderly h.log) h.log (λ n. own_orderly n s h sound) b j)))
 
   pub agrees : (s : S) (es : List Event) → Agree M s (history M (fresh s) es) (hall_after M s es)
   agrees s es = record {

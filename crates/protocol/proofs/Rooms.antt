@@ -1,6 +1,6 @@
 -- Every call leaves room in the log.
 use Rattle.std.proofs.Common.{◌≡◌, ℕ, zero, suc, ◌+◌, ◌*◌, ◌≤◌, Bool, true, false, cond, not, ◌&&◌, eqb, ltb, leb, List, [], ◌∷◌, ◌++◌, map, length, get_or, is_some, Some, None, filter, Option, sym, refl, ap, ◌∙◌, subst, ⊎_elim, append-nil, arith}
-use Rattle.std.specs.List.{AllByRecursion as All}
+use Rattle.std.specs.List.{AllByRecursion}
 use Rattle.std.proofs.ByRecursion.{All-set}
 use Rattle.std.proofs.lemmas.Bool.{eqb-true, eq-eqb, ne_eqb, ltb-false, cases_eq}
 use Rattle.protocol.specs.Options.{when, else}
@@ -34,7 +34,7 @@ use Rattle.protocol.proofs.StandingChanges.{sound_fresh}
 use Rattle.protocol.proofs.SoundKept.{sound_outcome, sound_ends, none_left}
 use Rattle.protocol.proofs.Promise.{all_is}
 
-fits_at : (k : ℕ) (xs : List (Option Body)) → All (λ o. size (body_of o) ≤ 32) xs → size (body_of (get_or xs k None)) ≤ 32
+fits_at : (k : ℕ) (xs : List (Option Body)) → AllByRecursion (λ o. size (body_of o) ≤ 32) xs → size (body_of (get_or xs k None)) ≤ 32
 fits_at k [] all = omega arith
 fits_at zero (x ∷ xs) all = all.0
 fits_at (suc k) (x ∷ xs) all = fits_at k xs all.1

@@ -1,6 +1,6 @@
 -- What stays true of a hall from its making on.
 use Rattle.std.proofs.Common.{◌≡◌, ℕ, ◌≤◌, Bool, true, false, List, Some}
-use Rattle.std.specs.List.{AllByRecursion as All}
+use Rattle.std.specs.List.{AllByRecursion}
 use Rattle.serial.specs.Replay.{Replays}
 use Rattle.activity.specs.declared.Activity.{Activity}
 use Rattle.protocol.specs.declared.record.Record.{Record}
@@ -18,7 +18,7 @@ use Rattle.protocol.proofs.Members.{In, Before}
 -- steps fit the station's catalogue
 
 abbrev pub FitsRow : {S : Type 0} → Meaning S → List Activity → Type 0
-FitsRow M ss = All (λ s. M.retriable s.number ≡ true) ss
+FitsRow M ss = AllByRecursion (λ s. M.retriable s.number ≡ true) ss
 
 abbrev mutual
   pub FitsBody : {S : Type 0} → Meaning S → Body → Type 0
@@ -77,4 +77,4 @@ module _ {S : Type 0} where
     pub numbers : (a b : Record) → In a h.log → In b h.log → a.commit ≡ b.commit → (a.commit ≡ 0 → ⊥) → a.start ≡ b.start
     pub actives : (n : ℕ) (q : Process) → find n h.processes ≡ Some q → Active M h q
     pub lone : (n m : ℕ) (q r : Process) → find n h.processes ≡ Some q → find m h.processes ≡ Some r → past_pivot q.standing ≡ true → past_pivot r.standing ≡ true → n ≡ m
-    pub programs : All (λ o. FitsBody M (body_of o)) h.programs
+    pub programs : AllByRecursion (λ o. FitsBody M (body_of o)) h.programs

@@ -1,6 +1,6 @@
 -- What does not touch the log keeps a hall sound.
 use Rattle.std.proofs.Common.{◌≡◌, ℕ, zero, suc, ◌≤◌, Bool, true, false, cond, ◌&&◌, ◌⊎◌, List, [], ◌∷◌, ◌++◌, map, get_or, Some, None, Option, sym, refl, ap, ◌∙◌, subst, inl, inr, ⊎_elim, arith}
-use Rattle.std.specs.List.{AllByRecursion as All}
+use Rattle.std.specs.List.{AllByRecursion}
 use Rattle.std.proofs.ByRecursion.{All-set}
 use Rattle.std.proofs.lemmas.Bool.{true≢false, false≢true}
 use Rattle.protocol.specs.declared.record.Record.{Record}
@@ -132,7 +132,7 @@ module _ {S : Type 0} (M : Meaning S) (s : S) where
     programs = sound.programs;
   }
 
-  fits_at : (k : ℕ) (xs : List (Option Body)) → All (λ o. FitsBody M (body_of o)) xs → FitsBody M (body_of (get_or xs k None))
+  fits_at : (k : ℕ) (xs : List (Option Body)) → AllByRecursion (λ o. FitsBody M (body_of o)) xs → FitsBody M (body_of (get_or xs k None))
   fits_at k [] all = tt
   fits_at zero (x ∷ xs) all = all.0
   fits_at (suc k) (x ∷ xs) all = fits_at k xs all.1

@@ -4,7 +4,7 @@ use mathlib.Core.Logic.{∥∥₁_elim}
 use mathlib.Core.HLevel.{Unit-prop, ×_prop}
 use native.Mathlib.Bridge.{le_prop}
 use Rattle.serial.specs.Sorts.{Pairwise}
-use Rattle.std.specs.List.{AllByRecursion as All}
+use Rattle.std.specs.List.{AllByRecursion}
 use Rattle.std.proofs.lemmas.Bool.{eqb-true, eqb-false, true≢false, both_ways}
 use Rattle.activity.specs.declared.Activity.{Activity}
 use Rattle.protocol.specs.declared.record.Record.{Record}
@@ -35,7 +35,7 @@ pub record Owned {S : Type 0} (h : Hall S) : Type 0 where
   pub active : (r : Record) → In r h.log → r.commit ≡ 0 → (q : Process) × (find r.start h.processes ≡ Some q)
   pub unpivoted : (n : ℕ) (q : Process) → find n h.processes ≡ Some q → past_pivot q.standing ≡ false → (r : Record) → In r h.log → r.start ≡ n → r.pivot ≡ false
 
-found_low : (g n : ℕ) (ps : List Process) (q : Process) → All (λ x. x.start ≤ g) ps → find n ps ≡ Some q → n ≤ g
+found_low : (g n : ℕ) (ps : List Process) (q : Process) → AllByRecursion (λ x. x.start ≤ g) ps → find n ps ≡ Some q → n ≤ g
 found_low g n [] q all e = absurd (none_some e)
 found_low g n (p ∷ ps) q all e = go (eqb p.start n) refl e (found_low g n ps q all.1)
   where
@@ -77,7 +77,7 @@ sealed_open n c r e = go (owned n r) refl e
     go true t f = absurd (omega arith)
     go false t f = (f, eqb-false r.start n t)
 
-all_prop : (p : Process) (ps : List Process) → (x y : All (λ b. p.start < b.start) ps) → x ≡ y
+all_prop : (p : Process) (ps : List Process) → (x y : AllByRecursion (λ b. p.start < b.start) ps) → x ≡ y
 all_prop p [] = Unit-prop
 all_prop p (q ∷ qs) = ×_prop le_prop (all_prop p qs)
 
@@ -133,7 +133,7 @@ module _ {S : Type 0} where
         (from_push n h.processes record { start = suc h.given; place = k; standing = Running; at = beginning h.programs k } q e);
   }
 
-  owned_done : (h : Hall S) → Owned h → All (λ x. x.start ≤ h.given) h.processes → (p : Process) → find p.start h.processes ≡ Some p → (pivot : Bool) (a : Activity) (to : Position) (d : Option (ℕ × S)) → Owned (performed h p pivot a to d).hall
+  owned_done : (h : Hall S) → Owned h → AllByRecursion (λ x. x.start ≤ h.given) h.processes → (p : Process) → find p.start h.processes ≡ Some p → (pivot : Bool) (a : Activity) (to : Position) (d : Option (ℕ × S)) → Owned (performed h p pivot a to d).hall
   owned_done h o starts p is pivot a to None = owned_changed h o p is (stand (failed p.standing)) (λ q. refl) (failed_past p.standing)
   owned_done h o starts p is pivot a to (Some d) =
       let new = record_of p pivot a d.0 in

@@ -1,6 +1,6 @@
 -- What each call may come to, sentence by sentence; that each comes to exactly one thing is proved.
 use Rattle.std.specs.Prelude.{◌≡◌, ℕ, suc, ◌+◌, ◌*◌, ◌<◌, ◌≤◌, true, false, List, [], ◌∷◌, length, Some, None, Option, ◌≢◌, slice_index_or}
-use Rattle.std.specs.List.{AllByRecursion as All}
+use Rattle.std.specs.List.{AllByRecursion}
 use Rattle.station.specs.Meaning.{Meaning}
 use Rattle.program.specs.declared.command.Kind.{Kind}
 use Rattle.program.specs.declared.command.Kind.TheVariants.{Compensatable, Pivot, Retriable}
@@ -60,7 +60,7 @@ module _ {S : Type 0} (M : Meaning S) where
     load_nowhere : {k : ℕ} {b : Body} {w : IsProgram b} → 7 < k → Comes h (loading k b w) h (Refused NoPlace)
     load_busy : {k : ℕ} {b : Body} {w : IsProgram b} (q : Process) → k ≤ 7 → In q h.processes → q.place ≡ k → Comes h (loading k b w) h (Refused Busy)
     load_unfit : {k : ℕ} {b : Body} {w : IsProgram b} {r : Refusal} → k ≤ 7 → Unused h k → Unfit 0 (body_steps b) r → Comes h (loading k b w) h (Refused r)
-    loads : {k : ℕ} {b : Body} {w : IsProgram b} → k ≤ 7 → Unused h k → All Fits (body_steps b) → Comes h (loading k b w) (with_program h k b) Loaded
+    loads : {k : ℕ} {b : Body} {w : IsProgram b} → k ≤ 7 → Unused h k → AllByRecursion Fits (body_steps b) → Comes h (loading k b w) (with_program h k b) Loaded
     -- installing: reading and loading in one
     install_no_program : {k : ℕ} {t : List ℕ} {b : Body} {e : text.Refusal} {refused : OutcomeBy t b (Some e)} → Comes h (installing k t b (Some e) refused) h (Refused (BadText e))
     installs : {k : ℕ} {t : List ℕ} {b : Body} {read : Yields t b} {g : Hall S} {a : Answer} → Comes h (loading k b (t, read)) g a → Comes h (installing k t b None read) g a

@@ -1,6 +1,6 @@
 -- What always holds of a hall's tables, whatever the station means.
 use Rattle.std.specs.Prelude.{◌≡◌, ℕ, ◌+◌, ◌*◌, ◌≤◌, false, List, length, Some}
-use Rattle.std.specs.List.{AllByRecursion as All}
+use Rattle.std.specs.List.{AllByRecursion}
 use Rattle.protocol.specs.declared.record.Record.{Record}
 use Rattle.program.specs.Grammar.{Body, Choices, body_steps, choices_steps}
 use Rattle.program.specs.Positions.{Rest, in_body, in_row, Position, outer, inner, alternative}
@@ -26,7 +26,7 @@ Roomy mine (outer b) = length mine + size b ≤ 32
 Roomy mine (inner c k r) = (length (to_pivot mine) + choice_size c ≤ 32) × (length (from_pivot mine) + rest_size r ≤ rest_size (alternative c k))
 
 pub record Rooms {S : Type 0} (h : Hall S) : Type 0 where
-  pub programs : All (λ o. size (body_of o) ≤ 32) h.programs
+  pub programs : AllByRecursion (λ o. size (body_of o) ≤ 32) h.programs
   pub actives : (n : ℕ) (q : Process) → find n h.processes ≡ Some q → Roomy (own n h.log) q.at
   pub budget : length (committed_records h.log) + 32 * length h.processes ≤ 1024
 

@@ -1,6 +1,6 @@
 -- That the log has room, and that numbers and tables stay within their bounds.
 use Rattle.std.specs.Prelude.{◌+◌, ◌<◌, ◌≤◌, List, length}
-use Rattle.std.specs.List.{AllByRecursion as All}
+use Rattle.std.specs.List.{AllByRecursion}
 use Rattle.serial.specs.Sorts.{Pairwise}
 use Rattle.station.specs.Meaning.{Meaning}
 use Rattle.protocol.specs.Hall.{Hall, fresh}
@@ -18,7 +18,7 @@ pub record Bounded {S : Type 0} (h : Hall S) : Type 0 where
   pub active : length h.processes ≤ 16
   pub committed : h.committed + length h.processes ≤ h.given
   pub rising : Pairwise (λ a b. a.start < b.start) h.processes
-  pub starts : All (λ q. q.start ≤ h.given) h.processes
+  pub starts : AllByRecursion (λ q. q.start ≤ h.given) h.processes
 
 abbrev pub StaysBounded : {S : Type 0} → Meaning S → Type 0
 StaysBounded {S} M = (s : S) (es : List Event) (ts : List Told) (h : Hall S) → Runs M (fresh s) es ts h → Bounded h

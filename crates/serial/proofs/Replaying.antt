@@ -1,6 +1,6 @@
 -- Records that do not conflict change places in a log, and the log replays as before.
 use Rattle.std.proofs.Common.{◌≡◌, Bool, true, false, cond, List, [], ◌∷◌, ◌++◌, refl, subst}
-use Rattle.std.specs.List.{AllByRecursion as All}
+use Rattle.std.specs.List.{AllByRecursion}
 use Rattle.serial.specs.Sorts.{Pairwise, insert, sort}
 use Rattle.serial.specs.Replay.{Replays, Closed, Swap}
 use Rattle.serial.proofs.Sorting.{all_sort}
@@ -27,7 +27,7 @@ module _ {R S : Type 0} (Step : R → S → S → Type 0) where
 
     module _ (conflict : R → R → Bool) (swap : Swap Step conflict Good) where
       -- a record goes towards the end, past those that it may not stand before, and does not conflict with
-      insert_replays : (first : R → R → Bool) (r : R) (xs : List R) (s t : S) → Good s → All (λ x. first r x ≡ false → conflict r x ≡ false) xs → Replays Step (r ∷ xs) s t → Replays Step (insert first r xs) s t
+      insert_replays : (first : R → R → Bool) (r : R) (xs : List R) (s t : S) → Good s → AllByRecursion (λ x. first r x ≡ false → conflict r x ≡ false) xs → Replays Step (r ∷ xs) s t → Replays Step (insert first r xs) s t
       insert_replays first r [] s t good free replay = replay
       insert_replays first r (x ∷ xs) s t good free replay = go (first r x) refl (λ k good'. insert_replays first r xs k t good' free.1)
         where
@@ -48,7 +48,7 @@ module _ {R S : Type 0} (Step : R → S → S → Type 0) where
           (m, did, sort_replays first rs m t (closed r s m good did) free.1 rest)
 
       -- a record goes to the end, past those that it does not conflict with
-      pub to_end : (r : R) (ys : List R) (s t : S) → Good s → All (λ y. conflict r y ≡ false) ys → Replays Step (r ∷ ys) s t → (u : S) × Replays Step ys s u × Step r u t
+      pub to_end : (r : R) (ys : List R) (s t : S) → Good s → AllByRecursion (λ y. conflict r y ≡ false) ys → Replays Step (r ∷ ys) s t → (u : S) × Replays Step ys s u × Step r u t
       to_end r [] s t good free replay = (s, refl, subst (Step r s) replay.2 replay.1)
       to_end r (y ∷ ys) s t good free replay =
           let (m, did, after) = replay in
@@ -59,7 +59,7 @@ module _ {R S : Type 0} (Step : R → S → S → Type 0) where
 
       -- there, it can be taken back: `Back t u` says that taking r back in t gives u
       pub take_back : (r : R) (Back : S → S → Type 0) → ((u t : S) → Good u → Step r u t → Back t u)
-          → (xs ys : List R) (s t : S) → Good s → All (λ y. conflict r y ≡ false) ys → Replays Step (xs ++ r ∷ ys) s t
+          → (xs ys : List R) (s t : S) → Good s → AllByRecursion (λ y. conflict r y ≡ false) ys → Replays Step (xs ++ r ∷ ys) s t
           → (u : S) × Back t u × Replays Step (xs ++ ys) s u
       take_back r Back restores xs ys s t good free replay =
           let (m, front, after) = replay_apart xs (r ∷ ys) s t replay in

@@ -1,7 +1,7 @@
 -- Sorting is a stable sort: the same records, sorted, and records that pass a test stay in their order.
 use Rattle.std.proofs.Common.{◌≡◌, ℕ, ◌≤◌, Bool, true, false, cond, not, ◌||◌, eqb, List, [], ◌∷◌, ◌++◌, filter, refl, ap, ◌∙◌, arith}
 use Rattle.std.specs.List.Sorted.{IsPermutation}
-use Rattle.std.specs.List.{AllByRecursion as All}
+use Rattle.std.specs.List.{AllByRecursion}
 use Rattle.std.proofs.ByRecursion.{All-weaker, kept_by_passes, all_shuffled}
 use Rattle.std.proofs.lemmas.List.Sorted.{IsPermutation-refl, IsPermutation-cons, IsPermutation-trans, IsPermutation-swap}
 use Rattle.std.proofs.lemmas.Bool.{both_ways, leb-true, leb-false, le-leb, eqb-true}
@@ -29,10 +29,10 @@ module _ {R : Type 0} where
   sort_permutes first (r ∷ rs) =
       IsPermutation-trans (r ∷ rs) (r ∷ sort first rs) (insert first r (sort first rs)) (IsPermutation-cons r rs (sort first rs) (sort_permutes first rs)) (insert_permutes first r (sort first rs))
 
-  pub all_insert : (P : R → Type 0) (first : R → R → Bool) (r : R) (xs : List R) → P r → All P xs → All P (insert first r xs)
+  pub all_insert : (P : R → Type 0) (first : R → R → Bool) (r : R) (xs : List R) → P r → AllByRecursion P xs → AllByRecursion P (insert first r xs)
   all_insert P first r xs p all = all_shuffled P (r ∷ xs) (insert first r xs) (insert_permutes first r xs) (p, all)
 
-  pub all_sort : (P : R → Type 0) (first : R → R → Bool) (log : List R) → All P log → All P (sort first log)
+  pub all_sort : (P : R → Type 0) (first : R → R → Bool) (log : List R) → AllByRecursion P log → AllByRecursion P (sort first log)
   all_sort P first log all = all_shuffled P log (sort first log) (sort_permutes first log) all
 
   -- ---- sorted
@@ -51,7 +51,7 @@ module _ {R : Type 0} where
 
   -- ---- stable
   -- r goes only past records that do not pass the test with it
-  pub insert_stable : (first : R → R → Bool) (p : R → Bool) (r : R) (xs : List R) → All (λ x. p r ≡ true → p x ≡ true → first r x ≡ true) xs → filter p (insert first r xs) ≡ filter p (r ∷ xs)
+  pub insert_stable : (first : R → R → Bool) (p : R → Bool) (r : R) (xs : List R) → AllByRecursion (λ x. p r ≡ true → p x ≡ true → first r x ≡ true) xs → filter p (insert first r xs) ≡ filter p (r ∷ xs)
   insert_stable first p r [] stay = refl
   insert_stable first p r (x ∷ xs) stay = go (first r x) refl (insert_stable first p r xs stay.1)
     where
@@ -94,7 +94,7 @@ module _ {R : Type 0} where
     all_pairs P f [] = tt
     all_pairs P f (x ∷ xs) = (all (P x) (f x) xs, all_pairs P f xs)
       where
-        all : (Q : R → Type 0) → ((y : R) → Q y) → (ys : List R) → All Q ys
+        all : (Q : R → Type 0) → ((y : R) → Q y) → (ys : List R) → AllByRecursion Q ys
         all Q g [] = tt
         all Q g (y ∷ ys) = (g y, all Q g ys)
 
@@ -113,7 +113,7 @@ module _ {R : Type 0} where
     insert_low r [] e = refl
     insert_low r (x ∷ xs) e = ap (λ b. cond (b || not (low x)) (r ∷ x ∷ xs) (x ∷ insert (low_first low) r xs)) e
 
-    insert_high : (r : R) (xs ys : List R) → low r ≡ false → All (λ x. low x ≡ true) xs → All (λ y. not (low y) ≡ true) ys → insert (low_first low) r (xs ++ ys) ≡ xs ++ r ∷ ys
+    insert_high : (r : R) (xs ys : List R) → low r ≡ false → AllByRecursion (λ x. low x ≡ true) xs → AllByRecursion (λ y. not (low y) ≡ true) ys → insert (low_first low) r (xs ++ ys) ≡ xs ++ r ∷ ys
     insert_high r [] [] e lows highs = refl
     insert_high r [] (y ∷ ys) e lows highs =
         ap (λ b. cond (b || not (low y)) (r ∷ y ∷ ys) (y ∷ insert (low_first low) r ys)) e

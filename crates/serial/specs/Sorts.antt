@@ -1,12 +1,12 @@
 -- Lists of records, and sorting them by any comparison.
 use Rattle.std.specs.Prelude.{◌≡◌, ℕ, ◌≤◌, Bool, true, false, cond, not, ◌||◌, List, [], ◌∷◌, filter, nat_eq, nat_le}
 use Rattle.std.specs.List.Sorted.{IsPermutation}
-use Rattle.std.specs.List.{AllByRecursion as All}
+use Rattle.std.specs.List.{AllByRecursion}
 
 -- P holds of each two of which the first stands before the second, next to it or not
 abbrev pub Pairwise : {R : Type 0} → (R → R → Type 0) → List R → Type 0
 Pairwise P [] = Unit {0}
-Pairwise P (x ∷ xs) = All (P x) xs × Pairwise P xs
+Pairwise P (x ∷ xs) = AllByRecursion (P x) xs × Pairwise P xs
 
 -- ---- comparisons
 -- A comparison is any test `first a b`, read: a may stand before b. Two records that may each stand before the other tie.

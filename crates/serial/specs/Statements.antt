@@ -1,6 +1,6 @@
 -- The theorems, over any records R, and any actions A on states S. Each record has an action and an answer.
 use Rattle.std.specs.Prelude.{◌≡◌, ℕ, ◌<◌, Bool, true, false, not, List, ◌∷◌, ◌++◌, filter}
-use Rattle.std.specs.List.{AllByRecursion as All}
+use Rattle.std.specs.List.{AllByRecursion}
 use Rattle.serial.specs.Sorts.{Pairwise, Sorted, records_of, sort, by_rank, StableSort, StableSortByRank}
 use Rattle.serial.specs.Replay.{Replays}
 use Rattle.serial.specs.Actions.{Meaning, Performs}
@@ -20,7 +20,7 @@ OneSerialOrder R =
     → Sorted first xs
     → Sorted first ys
     → ((n : ℕ) → records_of owner n xs ≡ records_of owner n ys)
-    → All (λ a. All (λ b. first a b ≡ true → first b a ≡ true → owner a ≡ owner b) ys) xs
+    → AllByRecursion (λ a. AllByRecursion (λ b. first a b ≡ true → first b a ≡ true → owner a ≡ owner b) ys) xs
     → xs ≡ ys
 
 -- The state in which a log begins is good in the following. So are all that it passes through, in either order.
@@ -59,6 +59,6 @@ module _ {A S : Type 0} (M : Meaning A S) (good : S → Type 0) (R : Type 0) whe
       (action : R → A) (answer : R → ℕ) (xs : List R) (r : R) (ys : List R) (s t : S)
       → good s
       → M.compensatable (action r) ≡ true
-      → All (λ y. M.conflict (action r) (action y) ≡ false) ys
+      → AllByRecursion (λ y. M.conflict (action r) (action y) ≡ false) ys
       → Replays (Performs M action answer) (xs ++ r ∷ ys) s t
       → Replays (Performs M action answer) (xs ++ ys) s (M.undone (action r) (answer r) t)

@@ -1,7 +1,7 @@
 // A station over another one, which adds a fixed number to each parameter.
 ghost use Rattle.station.specs.Renumbering.{renumbered, shifted_by, Renumbered};
 ghost use Rattle.std.specs.Prelude.{◌≡◌};
-ghost use Rattle.station.specs.Renumbered as ProofsRenumbered;
+ghost use Rattle.station.specs.Renumbered as RenumberedLaws;
 
 use crate::Station;
 use activity::Activity;
@@ -63,15 +63,15 @@ impl<S: Station> Station for Renumbering<S> {
 
     ghost meaning = { renumbered S.Station.meaning };
 
-    ghost restores = { ProofsRenumbered.restores S.Station.meaning S.Station.restores };
+    ghost restores = { RenumberedLaws.restores S.Station.meaning S.Station.restores };
 
-    ghost commutes = { ProofsRenumbered.commutes S.Station.meaning S.Station.commutes };
+    ghost commutes = { RenumberedLaws.commutes S.Station.meaning S.Station.commutes };
 
-    ghost symmetric = { ProofsRenumbered.symmetric S.Station.meaning S.Station.symmetric };
+    ghost symmetric = { RenumberedLaws.symmetric S.Station.meaning S.Station.symmetric };
 
-    ghost retries = { ProofsRenumbered.retries S.Station.meaning S.Station.retries };
+    ghost retries = { RenumberedLaws.retries S.Station.meaning S.Station.retries };
 
-    ghost bounded = { ProofsRenumbered.bounded S.Station.meaning S.Station.bounded };
+    ghost bounded = { RenumberedLaws.bounded S.Station.meaning S.Station.bounded };
 
     fn activity_count() -> u32 {
         S::activity_count()
