@@ -1,4 +1,4 @@
-/* Dafimbory: what C controllers call. Link libprogram.a (`rt staticlib program`) and the kit's librattle_c.a. */
+/* Dafimbory: what C controllers call. Link target/staticlib/libprogram.a, which tools/staticlib builds. */
 #ifndef DAFIMBORY_H
 #define DAFIMBORY_H
 
