@@ -138,6 +138,7 @@ impl<S: Station> Tables<S> {
         requires within { i < vec_len self.old.processes }
         requires at { p ≡ slice_index_or self.old.processes.items i p }
         requires rising { Pairwise (λ a b. a.start < b.start) (model S.Station.view self.old).processes }
+        // The ordinal of the alternative that comes next fits the letter N, which holds one byte: so far the caller shows it.
         requires few { alternative_of (here self.old.programs p) < 255 }
         ensures { answered (model S.Station.view self.new) (Stepped result) ≡ backward S.Station.meaning (model S.Station.view self.old) (seen self.old.programs p) (with_nothing_left (model S.Station.view self.old) (seen self.old.programs p) p.standing) (returnable p.start self.old.log.items) }
     {
@@ -178,6 +179,7 @@ impl<S: Station> Tables<S> {
         requires within { i < vec_len self.old.processes }
         requires at { p ≡ slice_index_or self.old.processes.items i p }
         requires rising { Pairwise (λ a b. a.start < b.start) (model S.Station.view self.old).processes }
+        // The ordinal of the alternative that comes next fits the letter N, which holds one byte: so far the caller shows it.
         requires few { alternative_of (here self.old.programs p) < 255 }
         ensures { answered (model S.Station.view self.new) (Stepped result) ≡ with_nothing_left (model S.Station.view self.old) (seen self.old.programs p) p.standing }
     {

@@ -17,6 +17,7 @@ impl<S: Station> Tables<S> {
     // A step of the process of a start number.
     pub(crate) fn step(&mut self, start: u16) -> Result<Turn, Refusal>
         requires held { ∥ Held (model S.Station.view self.old) ∥₁ }
+        // The ordinal of the alternative that comes next fits the letter N, which holds one byte: so far the caller shows it.
         requires few { All (λ p. alternative_of (here self.old.programs p) < 255) self.old.processes.items }
         ensures { answered (model S.Station.view self.new) (step_reply result) ≡ outcome S.Station.meaning (model S.Station.view self.old) (stepping start) }
     {
