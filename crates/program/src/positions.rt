@@ -22,7 +22,7 @@ impl Cursor {
     // The ordinal, from 0, of the alternative taken at the last pivot; 0 before any pivot.
     pub fn alternative(self) -> u32
         ensures is { (p : Program) → result ≡ alternative_of (position p self) }
-        ensures low { result ≤ 255 }
+        ensures low { result ≤ 254 }
     {
         match self.choices {
             None => 0,
@@ -146,6 +146,7 @@ impl Program {
 
     // Where alternative `k` of the choices from an index on begins, and its ordinal; past the last one the last.
     fn alternative_at(&self, from: usize, k: u32) -> (usize, u32)
+        requires { 2 ≤ from }
         ensures { Found self.now from k result.0 result.1 }
     {
         let mut place = from;
