@@ -1,7 +1,6 @@
 -- What one command more adds.
-use Rattle.std.proofs.Common.{◌≡◌, ℕ, zero, suc, ◌+◌, ◌≤◌, List, [], ◌∷◌, ◌++◌, take, sym, refl, ap, ◌∙◌, append_assoc, append-nil, arith}
+use Rattle.std.proofs.Common.{◌≡◌, ℕ, ◌+◌, ◌≤◌, List, [], ◌∷◌, ◌++◌, sym, refl, ap, ◌∙◌, append_assoc, append-nil, arith}
 use Rattle.program.specs.declared.command.Command.{Command}
-use Rattle.program.specs.declared.command.Command.TheVariants.{C, P, R, Open, Bar, Close, Stop}
 use Rattle.program.specs.Grammar.{written, bytes}
 use Rattle.program.specs.Refusals.{weight, step_count, open_after, opened, peak}
 
@@ -27,18 +26,3 @@ opened_peak n (c ∷ cs) = omega (arith, opened_peak (open_after n c) cs)
 pub peak_more : (n : ℕ) (cs : List Command) (c : Command) → peak n cs ≤ 4 → open_after (opened n cs) c ≤ 4 → peak n (cs ++ c ∷ []) ≤ 4
 peak_more n [] c h k = omega arith
 peak_more n (x ∷ cs) c h k = omega (arith, peak_more (open_after n x) cs c (omega arith) k)
-
--- a row of commands has at most as many steps as commands
-weight_low : (c : Command) → weight c ≤ 1
-weight_low (C a) = omega arith
-weight_low (P a) = omega arith
-weight_low (R a) = omega arith
-weight_low Open = omega arith
-weight_low Bar = omega arith
-weight_low Close = omega arith
-weight_low Stop = omega arith
-
-pub count_few : (n : ℕ) (cs : List Command) → step_count (take n cs) ≤ n
-count_few zero cs = omega arith
-count_few (suc n) [] = omega arith
-count_few (suc n) (c ∷ cs) = omega (arith, count_few n cs, weight_low c)

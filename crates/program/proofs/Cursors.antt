@@ -1,9 +1,10 @@
 -- A cursor in a program, as a position in its tree.
-use Rattle.std.proofs.Common.{◌≡◌, ℕ, zero, suc, ◌+◌, ◌<◌, ◌≤◌, min, Bool, true, false, List, [], ◌∷◌, ◌++◌, length, get_or, take, drop, Some, None, Option, sym, refl, ap, ◌∙◌, arith, length-append, take-append-drop, length-take-le, get_or-take}
+use Rattle.std.proofs.Common.{◌≡◌, ℕ, zero, suc, ◌+◌, ◌<◌, ◌≤◌, Bool, true, false, List, [], ◌∷◌, ◌++◌, length, get_or, take, drop, Some, None, Option, sym, refl, ap, ◌∙◌, arith, length-append, take-append-drop, length-take-le}
 use mathlib.Core.Bool.{Bool-set}
 use mathlib.Core.Logic.{∥∥₁_elim}
-use native.Mathlib.Decide.{dec_le}
-use Rattle.std.proofs.lemmas.List.{drop-drop, drop_all, take_all, take_more}
+use Rattle.std.specs.List.{cons_option}
+use Rattle.std.proofs.lemmas.List.{drop-drop, drop_all}
+use Rattle.std.proofs.lemmas.List.Elements.{filter_map-append}
 use Rattle.activity.specs.declared.Activity.{Activity}
 use Rattle.program.specs.declared.command.Command.{Command}
 use Rattle.program.specs.declared.command.Command.TheVariants.{C, P, R, Open, Bar, Close, Stop}
@@ -11,14 +12,12 @@ use Rattle.program.specs.declared.program.Program.{Program}
 use Rattle.program.specs.declared.command.Step.{Step}
 use Rattle.program.specs.declared.command.Kind.{Kind}
 use Rattle.program.specs.declared.command.Kind.TheVariants.{Compensatable, Pivot, Retriable}
-use Rattle.program.specs.Grammar.{Choices, row, or_else, text_commands, step, body_steps}
-use Rattle.program.specs.Refusals.{weight, step_count}
+use Rattle.program.specs.Grammar.{Choices, row, or_else, text_commands, body_steps}
 use Rattle.program.specs.Positions.{in_body, in_row, Position, outer, inner, alternative, reached, entered, Next, nothing, comes, next, coming, led, onward}
-use Rattle.program.specs.Places.{program_commands, row_at, body_at, opened_at, choices_at, rest_at, placed, tree, starts_row, skip, step_of, with_step, steps_among, nth, first, Spells, item_for, Left, left_in, left_past, left_after, unless_row, skipped}
+use Rattle.program.specs.Places.{program_commands, row_at, body_at, opened_at, choices_at, rest_at, placed, tree, starts_row, skip, step_of, steps_among, nth, first, Spells, item_for, Left, left_in, left_past, left_after, unless_row, skipped}
 use Rattle.program.specs.Contexts.{Context, in_body_at, at_pivot, at_choice, in_row_at, closed, over, nowhere, goes, is_over}
 use Rattle.program.proofs.Trees.{goes_append, goes_nowhere, goes_whole, whole_goes}
 use Rattle.program.proofs.ReadBack.{text_back, text_steps, choices_row, choices_body}
-use Rattle.program.proofs.Counts.{count_more}
 use Rattle.program.proofs.Walks.{from_there}
 
 over_is : (st : Context) → is_over st ≡ true → st ≡ over
@@ -198,16 +197,6 @@ none_there p at h =
     let long : length (program_commands p) ≡ p.len = length-take-le p.len p.commands (omega (arith, p.room, p.long)) in
     drop_all at (program_commands p) (omega arith)
 
--- the step at a place among those of some commands
-pub step_here : (x : Command) (xs : List Command) (s : Step) (k : ℕ) → Some s ≡ step_of x → k ≡ 0 → Some s ≡ nth (steps_among (x ∷ xs)) k
-step_here x xs s k e z = ap (λ o. nth (with_step o (steps_among xs)) 0) e ∙ ap (nth (steps_among (x ∷ xs))) (sym z)
-
-pub step_passed : (x : Command) (xs : List Command) (s : Step) (k : ℕ) → Some s ≡ step_of x → nth (steps_among xs) k ≡ nth (steps_among (x ∷ xs)) (suc k)
-step_passed x xs s k e = ap (λ o. nth (with_step o (steps_among xs)) (suc k)) e
-
-pub no_step : (x : Command) (xs : List Command) (k : ℕ) → None ≡ step_of x → nth (steps_among xs) k ≡ nth (steps_among (x ∷ xs)) k
-no_step x xs k e = ap (λ o. nth (with_step o (steps_among xs)) k) e
-
 -- the ordinal of an alternative
 pub row_reached : (xs : List Command) (k : ℕ) → starts_row xs ≡ true → reached (choices_at xs) k ≡ 0
 row_reached xs k e = ap (λ c. reached c k) (choices_row xs e)
@@ -230,13 +219,6 @@ before_end p at e =
     let long : length (program_commands p) ≡ p.len = length-take-le p.len p.commands (omega (arith, p.room, p.long)) in
     omega (arith, some_left (program_commands p) at e)
 
--- the command at an index, as the list's and as the first of what follows
-pub first_nth : (cs : List Command) (at : ℕ) → first (drop at cs) ≡ nth cs at
-first_nth [] zero = refl
-first_nth [] (suc n) = refl
-first_nth (c ∷ cs) zero = refl
-first_nth (c ∷ cs) (suc n) = first_nth cs n
-
 pub none_first : (cs : List Command) → None ≡ first cs → cs ≡ []
 none_first [] e = refl
 none_first (c ∷ cs) e = cc
@@ -246,33 +228,6 @@ some_first [] x e = cc
 some_first (c ∷ cs) x e = let h : c ≡ x = cc in ap (λ y. y ∷ cs) h
 
 -- ---- how many steps stand before a place
-pub one_more_step : (p : Program) (at : ℕ) (d : Command) → at < p.len → step_count (take (at + 1) (program_commands p)) ≡ step_count (take at (program_commands p)) + weight (get_or p.commands at d)
-one_more_step p at d h =
-    let cs = program_commands p in
-    let long : length cs ≡ p.len = length-take-le p.len p.commands (omega (arith, p.room, p.long)) in
-    ap step_count (take_more cs at d (omega arith))
-    ∙ count_more (take at cs) (get_or cs at d)
-    ∙ ap (λ x. step_count (take at cs) + weight x) (get_or-take p.len p.commands at d h)
-
-pub up_to : (p : Program) (at n : ℕ) → n ≡ min at p.len → take n (program_commands p) ≡ take at (program_commands p)
-up_to p at n e =
-    let cs = program_commands p in
-    let long : length cs ≡ p.len = length-take-le p.len p.commands (omega (arith, p.room, p.long)) in
-    elim (dec_le at p.len) [
-      | yes h ↦ let f : n ≡ at = omega arith in ap (λ k. take k cs) f
-      | no h ↦ let f : p.len ≤ at = omega arith in take_all n cs (omega arith) ∙ sym (take_all at cs (omega arith))
-    ]
-
-among_append : (us vs : List Command) → steps_among (us ++ vs) ≡ steps_among us ++ steps_among vs
-among_append [] vs = refl
-among_append (C a ∷ us) vs = ap (λ r. step Compensatable a ∷ r) (among_append us vs)
-among_append (P a ∷ us) vs = ap (λ r. step Pivot a ∷ r) (among_append us vs)
-among_append (R a ∷ us) vs = ap (λ r. step Retriable a ∷ r) (among_append us vs)
-among_append (Open ∷ us) vs = among_append us vs
-among_append (Bar ∷ us) vs = among_append us vs
-among_append (Close ∷ us) vs = among_append us vs
-among_append (Stop ∷ us) vs = among_append us vs
-
 nth_there : (us vs : List Step) (s : Step) → nth (us ++ s ∷ vs) (length us) ≡ Some s
 nth_there [] vs s = refl
 nth_there (u ∷ us) vs s = nth_there us vs s
@@ -294,7 +249,7 @@ module _ (p : Program) (at : ℕ) (choices : Option ℕ) (k : ℕ) (s : Step) wh
       let cs = program_commands p in
       let is : step_of x ≡ Some s = item_step x choices s (comes_here x xs choices cs at k e ∙ c) in
       let split : steps_among cs ≡ steps_among (take at cs) ++ s ∷ steps_among xs =
-      ap steps_among (sym (take-append-drop at cs) ∙ ap (λ r. take at cs ++ r) e) ∙ among_append (take at cs) (x ∷ xs) ∙ ap (λ o. steps_among (take at cs) ++ with_step o (steps_among xs)) is in
+      ap steps_among (sym (take-append-drop at cs) ∙ ap (λ r. take at cs ++ r) e) ∙ filter_map-append step_of (take at cs) (x ∷ xs) ∙ ap (λ o. steps_among (take at cs) ++ cons_option o (steps_among xs)) is in
       ap (λ l. nth l (length (steps_among (take at cs)))) split ∙ nth_there (steps_among (take at cs)) (steps_among xs) s
 
   -- the step that is next has as its ordinal how many stand before it
@@ -307,7 +262,7 @@ pub steps_left : (p : Program) (at : ℕ) → length (steps_among (take at (prog
 steps_left p at =
     let cs = program_commands p in
     sym (length-append (steps_among (take at cs)) (steps_among (drop at cs)))
-    ∙ ap length (sym (among_append (take at cs) (drop at cs)) ∙ ap steps_among (take-append-drop at cs) ∙ program_steps p)
+    ∙ ap length (sym (filter_map-append step_of (take at cs) (drop at cs)) ∙ ap steps_among (take-append-drop at cs) ∙ program_steps p)
 
 plain_kind : (k : Kind) (l : Left) → (k ≡ Pivot → ⊥) → record { here = drop 1 l.here; choices = l.choices } ≡ left_past k l
 plain_kind Compensatable l n = refl

@@ -1,5 +1,6 @@
 -- A cursor of a process as a position in its program's tree: what the commands from some index on are to a process that stands there.
-use Rattle.std.specs.Prelude.{◌≡◌, ℕ, zero, suc, ◌+◌, ◌-◌, ◌≤◌, Bool, true, false, List, [], ◌∷◌, length, take, drop, Some, None, Option}
+use Rattle.std.specs.Prelude.{◌≡◌, ℕ, zero, suc, ◌+◌, ◌-◌, ◌≤◌, Bool, true, false, List, [], ◌∷◌, length, take, drop, Some, None, Option, slice_get}
+use Rattle.std.specs.List.{filter_map}
 use Rattle.activity.specs.declared.Activity.{Activity}
 use Rattle.program.specs.declared.command.Command.{Command}
 use Rattle.program.specs.declared.command.Command.TheVariants.{C, P, R, Open, Bar, Close, Stop}
@@ -16,9 +17,7 @@ program_commands p = take p.len p.commands
 
 -- what stands at a place, from 0, of a list
 abbrev pub nth : {X : Type 0} → List X → ℕ → Option X
-nth [] k = None
-nth (x ∷ xs) zero = Some x
-nth (x ∷ xs) (suc k) = nth xs k
+nth xs k = slice_get xs k
 
 -- the row of retriable steps that begins here
 abbrev pub row_at : List Command → List Activity
@@ -107,14 +106,9 @@ step_of Bar = None
 step_of Close = None
 step_of Stop = None
 
-abbrev pub with_step : Option Step → List Step → List Step
-with_step None ss = ss
-with_step (Some s) ss = s ∷ ss
-
 -- the steps among some commands
 abbrev pub steps_among : List Command → List Step
-steps_among [] = []
-steps_among (c ∷ cs) = with_step (step_of c) (steps_among cs)
+steps_among cs = filter_map step_of cs
 
 -- how many steps of the text stand before a cursor
 abbrev pub steps_before : Program → Cursor → ℕ

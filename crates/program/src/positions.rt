@@ -190,15 +190,10 @@ impl Program {
     pub fn step(&self, ordinal: usize) -> Option<Step>
         ensures { result ≡ nth (body_steps (tree self.now)) ordinal }
     {
-        let mut left = ordinal;
-        for place in 0..self.len {
-            match self.commands[place].step() {
-                None => {}
-                Some(step) if left == 0 => return Some(step),
-                Some(_) => left -= 1,
-            }
-        }
-        None
+        self.commands()
+            .iter()
+            .filter_map(|command| command.step())
+            .nth(ordinal)
     }
 
     // How many steps of the text stand before a cursor: the ordinal of the step that is next there.
@@ -207,13 +202,11 @@ impl Program {
         ensures left { result + length (steps_among (left_at self.now cursor).here) ≡ length (body_steps (tree self.now)) }
         ensures names { (s : Step) → coming (what_comes (position self.now cursor)) ≡ Some s → nth (body_steps (tree self.now)) result ≡ Some s }
     {
-        let mut steps = 0;
-        for place in 0..cursor.at.min(self.len) {
-            if self.commands[place].is_step() {
-                steps += 1;
-            }
-        }
-        steps
+        self.commands()
+            .iter()
+            .take(cursor.at)
+            .filter_map(|command| command.step())
+            .count()
     }
 }
 

@@ -1,32 +1,15 @@
-use Rattle.std.proofs.Common.{◌≡◌, suc, ◌+◌, ◌∷◌, drop, sym, ap, ◌∙◌, arith}
-use Rattle.program.specs.Places.{program_commands, nth, steps_among}
-use Rattle.program.proofs.Cursors.{program_steps, command_there, none_there, step_here, step_passed, no_step}
+use Rattle.std.proofs.Common.{rules, ap, sym, ◌∙◌}
+use borrow.Author.Tests.{tests}
+use Rattle.std.proofs.lemmas.Iterator.{YieldsList-from_slice}
+use Rattle.std.proofs.lemmas.Iterator.Adapters.{option_map_id}
+use Rattle.std.proofs.lemmas.Iterator.Consumers.{YieldsList-from_filter_map, nth_from_yields_List}
+use Rattle.program.specs.Places.{step_of, nth, program_commands}
+use Rattle.program.proofs.Cursors.{program_steps}
 use Rattle.program.proofs.program.Program.step.Goals as goal
-use Rattle.program.proofs.program.Program.step.Goals.{in-None, in-Some-2}
-
-pub loop-place-init : goal.loop-place-init
-loop-place-init c = ap (λ ss. nth ss c.args.ordinal) (program_steps c.args.self.now)
-
-pub returns-in-Some : goal.returns-in-Some
-returns-in-Some c =
-    let p = c.args.self.now in
-    let none : c.loop-place.left ≡ 0 = omega arith in
-    step_here _ (drop (c.loop-place.place + 1) (program_commands p)) _ _ c.in-Some.ensures none
-    ∙ ap (λ xs. nth (steps_among xs) c.loop-place.left) (sym (command_there p c.loop-place.place _ (omega arith)))
-    ∙ c.loop-place.invariant
-
-pub loop-place-preserved : goal.loop-place-preserved
-loop-place-preserved c =
-    let p = c.args.self.now in
-    let xs = drop (c.loop-place.place + 1) (program_commands p) in
-    let back = ap (λ ys. nth (steps_among ys) c.loop-place.left) (sym (command_there p c.loop-place.place _ (omega arith))) ∙ c.loop-place.invariant in
-    elim c.match-step.branch [
-      | in-None w ↦ ap (nth (steps_among xs)) w.left-is ∙ no_step _ xs c.loop-place.left w.in-None.ensures ∙ back
-      | in-Some-2 w ↦
-          let one : suc c.match-step.left ≡ c.loop-place.left = omega (arith, w.left-is) in
-          step_passed _ xs _ c.match-step.left w.in-Some-2.ensures ∙ ap (nth (steps_among (_ ∷ xs))) one ∙ back
-    ]
 
 pub returns : goal.returns
 returns c =
-    ap (λ xs. nth (steps_among xs) c.loop-place.left) (sym (none_there c.args.self.now c.loop-place.place (omega arith))) ∙ c.loop-place.invariant
+    let p = c.args.self.now in
+    sym (option_map_id c.nth.result)
+    ∙ nth_from_yields_List c.nth.result c.nth.new.self c.args.ordinal c.nth.ensures.ran (YieldsList-from_filter_map _ step_of (YieldsList-from_slice (program_commands p) cc) c.filter_map.ensures.closure (λ x r q k. search (rules, tests)))
+    ∙ ap (λ ss. nth ss c.args.ordinal) (program_steps p)
