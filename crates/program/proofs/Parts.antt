@@ -2,13 +2,17 @@
 use Rattle.std.proofs.Common.{◌≡◌, ℕ, zero, suc, ◌+◌, ◌<◌, ◌≤◌, ◌⊎◌, [], ◌∷◌, ◌++◌, length, take, drop, sym, refl, ap, ◌∙◌, subst, ⊎_elim, add-one, arith}
 use Rattle.std.proofs.lemmas.List.{drop_more}
 use Rattle.activity.specs.declared.Activity.{Activity}
+use Rattle.program.specs.declared.command.Kind.{Kind}
+use Rattle.program.specs.declared.command.Kind.TheVariants.{Compensatable, Pivot, Retriable}
 use Rattle.program.specs.declared.command.Command.{Command}
 use Rattle.program.specs.declared.command.Command.TheVariants.{C, P, R, Open, Bar, Close, Stop}
+use Rattle.program.specs.declared.refusal.Fault.TheVariants.{Misplaced, CutOff, TooDeep}
 use Rattle.program.specs.declared.reader.Reader.{Reader}
-use Rattle.program.specs.Grammar.{mark, written, operands}
-use Rattle.program.specs.Refusals.{weight, Within, opened, open_after}
-use Rattle.program.specs.Contexts.{Context, in_body_at, at_pivot, at_choice, in_row_at, nowhere, end_mark, go, goes}
-use Rattle.program.specs.Reads.{text_of, commands_of, context, byte_at, Sound, Spelled, Pushed, StepNext, Only, MarkNext, Ready, BodyNext, RowNext, Moved}
+use Rattle.program.specs.Grammar.{mark, written, letter_of, command_of, operands}
+use Rattle.program.specs.Refusals.{weight, Within, opened, open_after, Refused}
+use Rattle.program.specs.Contexts.{Context, in_body_at, at_pivot, at_choice, in_row_at, nowhere, over, end_mark, go, goes}
+use Rattle.program.specs.Reads.{text_of, commands_of, context, byte_at, Spelled, Pushed, StepNext, Only, KindNext, Stepped, StepsNext, MarkNext, Passed, Ready, BodyNext, RowNext, Moved}
+use Rattle.program.proofs.Places.{width, somewhere, none_left, misplaced, too_deep}
 use Rattle.program.proofs.Trees.{goes_more, level_of, opened_level, body_ends}
 use Rattle.program.proofs.Counts.{count_more, opened_peak, peak_more}
 
@@ -88,22 +92,32 @@ module _ (r : Reader) (n : ℕ) where
   pub at_open : context r ≡ at_pivot n → Only r Open
   at_open e c m l = by c e (only_pivot n (byte_at r) c m l)
 
-module _ (r : Reader) (sound : Sound r) where
+step_written : (k : Kind) (s : Activity) → written (command_of k s) ≡ mark (command_of k s) ∷ operands s
+step_written Compensatable s = refl
+step_written Pivot s = refl
+step_written Retriable s = refl
+
+step_opens : (k : Kind) (s : Activity) (n : ℕ) → open_after n (command_of k s) ≡ n
+step_opens Compensatable s n = refl
+step_opens Pivot s n = refl
+step_opens Retriable s n = refl
+
+module _ (r : Reader) where
   pub low : opened 0 (commands_of r) ≤ 4
-  low = omega (arith, opened_peak 0 (commands_of r), sound.within.shallow)
+  low = omega (arith, opened_peak 0 (commands_of r), r.within.shallow)
 
   pub level : (context r ≡ nowhere → ⊥) → opened 0 (commands_of r) ≡ level_of (context r)
   level some = opened_level (commands_of r) (in_body_at 0) some
 
   pub choice_level : (n : ℕ) → context r ≡ at_choice n → n < 4
   choice_level n e =
-      let f = level (λ z. let y : ◌≡◌ {A = ℕ} 0 1 = cc in omega arith) ∙ ap level_of e in
+      let f = level (λ z. cc) ∙ ap level_of e in
       omega (arith, low)
 
   within_mark : (c : Command) → weight c ≡ 0 → open_after (opened 0 (commands_of r)) c ≤ 4 → Within (commands_of r ++ c ∷ [])
   within_mark c w h = record {
-    few = omega (arith, count_more (commands_of r) c, sound.within.few);
-    shallow = peak_more 0 (commands_of r) c sound.within.shallow h;
+    few = omega (arith, count_more (commands_of r) c, r.within.few);
+    shallow = peak_more 0 (commands_of r) c r.within.shallow h;
   }
 
   plain_written : (c : Command) → weight c ≡ 0 → written c ≡ mark c ∷ []
@@ -128,16 +142,17 @@ module _ (r : Reader) (sound : Sound r) where
       )
 
   -- so may a step whose operands are there
-  pub step_fits : (c : Command) (s : Activity) → written c ≡ mark c ∷ operands s → weight c ≡ 1 → open_after (opened 0 (commands_of r)) c ≡ opened 0 (commands_of r) → byte_at r ≡ mark c → (r.steps < 32) × (r.at + 4 ≤ length (text_of r)) × (take 4 (drop r.at (text_of r)) ≡ byte_at r ∷ operands s) → Spelled r c × Within (commands_of r ++ c ∷ [])
-  step_fits c s w one same is (few, fits, told) =
+  pub step_fits : (k : Kind) (s : Activity) → StepNext r (command_of k s) → (r.steps < 32) × (r.at + 4 ≤ length (text_of r)) × (take 4 (drop r.at (text_of r)) ≡ byte_at r ∷ operands s) → Spelled r (command_of k s) × Within (commands_of r ++ command_of k s ∷ [])
+  step_fits k s next (few, fits, told) =
+      let w = step_written k s in
       let long = ap length w in (
         record {
           fits = omega arith;
-          spelled = ap (λ k. take k (drop r.at (text_of r))) long ∙ told ∙ ap (λ b. b ∷ operands s) is ∙ sym w;
+          spelled = ap (λ n. take n (drop r.at (text_of r))) long ∙ told ∙ ap (λ b. b ∷ operands s) (sym next.letter) ∙ sym w;
         },
         record {
-          few = omega (arith, count_more (commands_of r) c, sound.count);
-          shallow = peak_more 0 (commands_of r) c sound.within.shallow (omega (arith, low));
+          few = omega (arith, count_more (commands_of r) (command_of k s), next.step, r.count);
+          shallow = peak_more 0 (commands_of r) (command_of k s) r.within.shallow (omega (arith, step_opens k s (opened 0 (commands_of r)), low));
         },
       )
 
@@ -153,12 +168,54 @@ module _ (r : Reader) (sound : Sound r) where
 pub pushed_context : (r r' : Reader) (c : Command) → Pushed r r' c → context r' ≡ go (context r) c
 pushed_context r r' c p = ap (goes (in_body_at 0)) p.grown ∙ goes_more (in_body_at 0) (commands_of r) c
 
--- a reader that has moved and takes one command more has moved
-pub moved_on : (r r' r'' : Reader) (c : Command) → Moved r r' → Pushed r' r'' c → Moved r r''
-moved_on r r' r'' c m p = record { sound = p.sound; same = p.same ∙ m.same; forward = omega (arith, m.forward, p.place) }
+-- a reader that has taken a command has read it, and moved
+pub pushed_on : (r r' : Reader) (c : Command) → Pushed r r' c → Moved r r' × Passed r r' c
+pushed_on r r' c p = (
+  record { same = p.same; forward = omega (arith, p.place) },
+  record { stands = pushed_context r r' c p; further = omega (arith, p.place, width c) },
+)
 
 pub moved_more : (r r' r'' : Reader) → Moved r r' → Moved r' r'' → Moved r r''
-moved_more r r' r'' m n = record { sound = n.sound; same = n.same ∙ m.same; forward = omega (arith, m.forward, n.forward) }
+moved_more r r' r'' m n = record { same = n.same ∙ m.same; forward = omega (arith, m.forward, n.forward) }
 
-pub step_next : (r : Reader) (c : Command) (st : Context) → r.at < length (text_of r) → mark c ≡ byte_at r → weight c ≡ 1 → go (context r) c ≡ st → (st ≡ nowhere → ⊥) → (k : Command) × StepNext r k
-step_next r c st here is one leads some = (c, record { here = here; letter = is; step = one; leads = λ e. some (sym leads ∙ e) })
+-- a step of a row that may begin or go on can stand at the place where its letter does
+pub row_steps : (k : Kind) (r : Reader) (n : ℕ) → StepsNext k r n → r.at < length (text_of r) → byte_at r ≡ letter_of k → KindNext r k
+row_steps Compensatable r n next here is s = record { here = here; letter = sym is; step = refl; leads = λ e. let f : in_body_at n ≡ nowhere = sym (next.on_c s) ∙ e in cc }
+row_steps Pivot r n next here is s = absurd next
+row_steps Retriable r n next here is s = record { here = here; letter = sym is; step = refl; leads = λ e. let f : in_row_at n ≡ nowhere = sym (next.on_r s) ∙ e in cc }
+
+-- and the row goes on after it
+pub row_on : (k : Kind) (r r' : Reader) (n : ℕ) → StepsNext k r n → Stepped r r' k → StepsNext k r' n
+row_on Compensatable r r' n next (s, p) = body_goes_on r' n (p.stands ∙ next.on_c s)
+row_on Pivot r r' n next p = next
+row_on Retriable r r' n next (s, p) = row_goes_on r' n (p.stands ∙ next.on_r s)
+
+-- what stands where only the mark m can stand, and does not
+module _ (r : Reader) (m : Command) (next : MarkNext r m) where
+  more : context r ≡ over → ⊥
+  more e = next.leads (ap (λ st. go st m) e)
+
+  pub mark_refused : r.at < length (text_of r) → (byte_at r ≡ mark m → ⊥) → Refused (text_of r) Misplaced r.at
+  mark_refused here other = misplaced r (somewhere _ m next.leads) here more (λ k l. next.only here k l other)
+
+  pub end_refused : length (text_of r) ≤ r.at → Refused (text_of r) CutOff r.at
+  end_refused end = none_left r (somewhere _ m next.leads) end more
+
+-- the opening bracket after a pivot
+module _ (r : Reader) (n : ℕ) (e : context r ≡ at_pivot n) where
+  opens : go (context r) Open ≡ nowhere → ⊥
+  opens z = let f : at_choice n ≡ nowhere = sym (ap (λ st. go st Open) e) ∙ z in cc
+
+  deep : opened 0 (commands_of r) ≡ n
+  deep = level r (somewhere (context r) Open opens) ∙ ap level_of e
+
+  pub open_next : (r.at < length (text_of r) → byte_at r ≡ 91 → n < 4) → MarkNext r Open
+  open_next h = record {
+    plain = refl;
+    leads = opens;
+    low = λ here is. omega (arith, h here is, deep);
+    only = λ here. at_open r n e;
+  }
+
+  pub fifth_bracket : 4 ≤ n → r.at < length (text_of r) → byte_at r ≡ 91 → Refused (text_of r) TooDeep r.at
+  fifth_bracket h here is = too_deep r (somewhere (context r) Open opens) here (sym is) opens (omega (arith, deep, low r))

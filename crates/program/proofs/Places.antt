@@ -10,7 +10,7 @@ use Rattle.program.specs.Grammar.{mark, written, operands, bytes, text_commands,
 use Rattle.program.specs.Places.{body_at}
 use Rattle.program.specs.Refusals.{weight, step_count, Within, Whole, opened, Stands, Reason, Stuck, Refused, number_of}
 use Rattle.program.specs.Contexts.{Context, in_body_at, nowhere, over, go}
-use Rattle.program.specs.Reads.{text_of, commands_of, context, byte_at, Sound, Spelled, Pushed, StepNext}
+use Rattle.program.specs.Reads.{text_of, commands_of, context, byte_at, Spelled, StepNext}
 use Rattle.program.proofs.Trees.{goes_whole, goes_more, goes_begins, begins_goes, whole_goes}
 use Rattle.program.proofs.ReadBack.{text_back}
 use Rattle.program.proofs.Limits.{yields_of}
@@ -25,41 +25,32 @@ width Bar = refl
 width Close = refl
 width Stop = refl
 
-pub pushed : (r : Reader) (c : Command) (at' steps' : ℕ) → Sound r → Spelled r c → Within (commands_of r ++ c ∷ []) → at' ≡ r.at + length (written c) → steps' ≡ r.steps + weight c → Pushed r (record { text = r.text; at = at'; steps = steps'; commands = set r.commands r.len c; len = r.len + 1 }) c
-pushed r c at' steps' sound here within place count =
-    let wide = width c in
-    let room : r.len < length r.commands = omega (arith, sound.long, sound.room, sound.inside, sound.short, here.fits) in
-    let grown = take_more_set r.commands r.len c room in
-    record {
-      sound = record {
-        split = ap (λ n. take n (text_of r)) place ∙ take-add r.at (length (written c)) (text_of r) ∙ (λ i. sound.split i ++ here.spelled i) ∙ sym (bytes_more (commands_of r) c) ∙ ap bytes (sym grown);
-        inside = omega (arith, here.fits);
-        short = sound.short;
-        long = length-set r.commands r.len c ∙ sound.long;
-        room = omega (arith, sound.room);
-        count = omega (arith, sound.count, count_more (commands_of r) c, ap step_count grown);
-        within = subst Within (sym grown) within;
-      };
-      grown = grown;
-      same = refl;
-      place = place;
-    }
+-- a reader that takes the command c at its place
+module _ (r : Reader) (c : Command) (here : Spelled r c) where
+  pub grown : take (r.len + 1) (set r.commands r.len c) ≡ commands_of r ++ c ∷ []
+  grown = take_more_set r.commands r.len c (omega (arith, width c, r.long, r.room, r.inside, r.short, here.fits))
+
+  pub split_on : take (r.at + length (written c)) (text_of r) ≡ bytes (take (r.len + 1) (set r.commands r.len c))
+  split_on = take-add r.at (length (written c)) (text_of r) ∙ (λ i. r.split i ++ here.spelled i) ∙ sym (bytes_more (commands_of r) c) ∙ ap bytes (sym grown)
+
+  pub counted : step_count (take (r.len + 1) (set r.commands r.len c)) ≡ r.steps + weight c
+  counted = omega (arith, r.count, count_more (commands_of r) c, ap step_count grown)
 
 pub somewhere : (st : Context) (c : Command) → (go st c ≡ nowhere → ⊥) → st ≡ nowhere → ⊥
 somewhere st c h e = h (ap (λ s. go s c) e)
 
-module _ (r : Reader) (sound : Sound r) (some : context r ≡ nowhere → ⊥) where
+module _ (r : Reader) (some : context r ≡ nowhere → ⊥) where
   -- a refusal where no byte is left, and where there is one
   pub stuck : (f : Fault) (rest : List ℕ) → drop r.at (text_of r) ≡ rest → Reason f (commands_of r) rest → (cs : List Command) × (more : List ℕ) × Stuck (text_of r) f r.at cs more
   stuck f rest left reason = (
     commands_of r,
     rest,
     record {
-      short = sound.short;
-      split = sym (take-append-drop r.at (text_of r)) ∙ (λ i. sound.split i ++ left i);
-      placed = sym (length-take-le r.at (text_of r) sound.inside) ∙ ap length sound.split;
+      short = r.short;
+      split = sym (take-append-drop r.at (text_of r)) ∙ (λ i. r.split i ++ left i);
+      placed = sym (length-take-le r.at (text_of r) r.inside) ∙ ap length r.split;
       begins = goes_begins (commands_of r) some;
-      within = sound.within;
+      within = r.within;
       reason = reason;
     },
   )
@@ -90,62 +81,45 @@ module _ (r : Reader) (sound : Sound r) (some : context r ≡ nowhere → ⊥) w
     too_deep m h four = stuck TooDeep (byte_at r ∷ drop (r.at + 1) (text_of r)) left (stands Open m h, four)
 
 -- what a step command at the place can be refused for
-module _ (r : Reader) (sound : Sound r) (c : Command) (next : StepNext r c) where
+module _ (r : Reader) (c : Command) (next : StepNext r c) where
   some : context r ≡ nowhere → ⊥
   some = somewhere (context r) c next.leads
 
   pub too_many : r.steps ≡ 32 → Refused (text_of r) TooManySteps r.at
-  too_many e = stuck r sound some TooManySteps (byte_at r ∷ drop (r.at + 1) (text_of r)) (drop_more (text_of r) r.at 0 next.here) (c, stands r sound some next.here c next.letter next.leads, next.step, sym sound.count ∙ e)
+  too_many e = stuck r some TooManySteps (byte_at r ∷ drop (r.at + 1) (text_of r)) (drop_more (text_of r) r.at 0 next.here) (c, stands r some next.here c next.letter next.leads, next.step, sym r.count ∙ e)
 
   pub cut_off : (r.steps ≡ 32 → ⊥) → length (text_of r) - r.at < 4 → Refused (text_of r) CutOff r.at
   cut_off e h =
-      stuck r sound some CutOff (byte_at r ∷ drop (r.at + 1) (text_of r)) (drop_more (text_of r) r.at 0 next.here) (
+      stuck r some CutOff (byte_at r ∷ drop (r.at + 1) (text_of r)) (drop_more (text_of r) r.at 0 next.here) (
         c,
-        stands r sound some next.here c next.letter next.leads,
+        stands r some next.here c next.letter next.leads,
         next.step,
-        omega (arith, sound.count, sound.within.few),
+        omega (arith, r.count, r.within.few),
         simp length-drop (omega arith),
       )
 
-pub four : (t : List ℕ) (at : ℕ) → at + 4 ≤ length t → take 4 (drop at t) ≡ get_or t at 0 ∷ get_or t (at + 1) 0 ∷ get_or t (at + 2) 0 ∷ get_or t (at + 3) 0 ∷ []
-four t at h =
-    ap (take 4) (drop_more t at 0 (omega arith)) ∙ ap (λ l. get_or t at 0 ∷ take 3 l) (drop_more t (at + 1) 0 (omega arith))
-    ∙ ap (λ l. get_or t at 0 ∷ get_or t (at + 1) 0 ∷ take 2 l) (again (at + 1) (at + 2) (omega arith) (omega arith))
-    ∙ ap (λ l. get_or t at 0 ∷ get_or t (at + 1) 0 ∷ get_or t (at + 2) 0 ∷ take 1 l) (again (at + 2) (at + 3) (omega arith) (omega arith))
-  where
-    again : (i j : ℕ) → i + 1 ≡ j → j < length t → drop (i + 1) t ≡ get_or t j 0 ∷ drop (j + 1) t
-    again i j e h = ap (λ k. drop k t) e ∙ drop_more t j 0 h
-
-pub halves : (h l : ℕ) → l < 256 → ((h * 256 + l) / 256 ≡ h) × ((h * 256 + l) % 256 ≡ l)
-halves h l k = (omega arith, omega arith)
-
-pub spelled_operands : (t : List ℕ) (at : ℕ) → at + 4 ≤ length t → get_or t (at + 3) 0 < 256 → take 4 (drop at t) ≡ get_or t at 0 ∷ operands (record { number = get_or t (at + 1) 0; parameter = get_or t (at + 2) 0 * 256 + get_or t (at + 3) 0 })
-spelled_operands t at h k =
-    let e = halves (get_or t (at + 2) 0) (get_or t (at + 3) 0) k in
-    four t at h ∙ (λ i. get_or t at 0 ∷ get_or t (at + 1) 0 ∷ sym e.0 i ∷ sym e.1 i ∷ [])
-
 -- a reader past the full stop
-module _ (t : List ℕ) (r : Reader) (sound : Sound r) (same : text_of r ≡ t) (end : context r ≡ over) where
+module _ (t : List ℕ) (r : Reader) (same : text_of r ≡ t) (end : context r ≡ over) where
   somewhere_else : context r ≡ nowhere → ⊥
-  somewhere_else e = let a : over ≡ nowhere = sym end ∙ e in let y : ◌≡◌ {A = ℕ} 0 1 = cc in omega arith
+  somewhere_else e = let a : over ≡ nowhere = sym end ∙ e in cc
 
   pub finished : length t ≤ r.at → Yields t (body_at (commands_of r))
   finished h =
       let w = goes_whole (commands_of r) end in
       let back : body_at (commands_of r) ≡ w.0 = ap body_at w.1 ∙ text_back w.0 in
-      let spelled : t ≡ bytes (text_commands w.0) = sym same ∙ sym (take_all r.at (text_of r) (omega (arith, ap length same))) ∙ sound.split ∙ ap bytes w.1 in
-      subst (λ b. Yields t b) (sym back) (yields_of t w.0 spelled (omega (arith, sound.short, ap length same)) (subst Within w.1 sound.within))
+      let spelled : t ≡ bytes (text_commands w.0) = sym same ∙ sym (take_all r.at (text_of r) (omega (arith, ap length same))) ∙ r.split ∙ ap bytes w.1 in
+      subst (λ b. Yields t b) (sym back) (yields_of t w.0 spelled (omega (arith, r.short, ap length same)) (subst Within w.1 r.within))
 
   -- the commands read are those of a text that the grammar yields
   pub yielded : Yielded (commands_of r)
   yielded =
       let w = goes_whole (commands_of r) end in
-      (w.0, w.1, yields_of (bytes (commands_of r)) w.0 (ap bytes w.1) (omega (arith, ap length sound.split, length-take-le r.at (text_of r) sound.inside, sound.inside, sound.short)) (subst Within w.1 sound.within))
+      (w.0, w.1, yields_of (bytes (commands_of r)) w.0 (ap bytes w.1) (omega (arith, ap length r.split, length-take-le r.at (text_of r) r.inside, r.inside, r.short)) (subst Within w.1 r.within))
 
   pub followed : r.at < length t → Refused t Trailing r.at
   followed h =
       let here = subst (λ l. r.at < length l) (sym same) h in
-      subst (λ l. Refused l Trailing r.at) same (trailing r sound somewhere_else here end (goes_whole (commands_of r) end))
+      subst (λ l. Refused l Trailing r.at) same (trailing r somewhere_else here end (goes_whole (commands_of r) end))
 
 stuck_place : (t : List ℕ) (f : Fault) (place : ℕ) (cs : List Command) (rest : List ℕ) → Stuck t f place cs rest → place ≤ 255
 stuck_place t f place cs rest s = omega (arith, s.short, s.placed, ap length s.split ∙ length-append (bytes cs) rest)

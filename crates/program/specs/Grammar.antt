@@ -49,6 +49,17 @@ mark Bar = 124
 mark Close = 93
 mark Stop = 46
 
+-- the letter of a step of the kind k, and its command
+abbrev pub letter_of : Kind → ℕ
+letter_of Compensatable = 67
+letter_of Pivot = 80
+letter_of Retriable = 82
+
+abbrev pub command_of : Kind → Activity → Command
+command_of Compensatable = C
+command_of Pivot = P
+command_of Retriable = R
+
 -- one byte of activity and two of parameter, high byte first
 abbrev pub operands : Activity → List ℕ
 operands a = a.number ∷ a.parameter / 256 ∷ a.parameter % 256 ∷ []

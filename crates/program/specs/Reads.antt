@@ -1,12 +1,14 @@
--- What holds of a reader between two commands, and what its parts do.
+-- What a reader has read between two commands, and what its parts do.
 use Rattle.std.specs.Prelude.{◌≡◌, ℕ, ◌+◌, ◌<◌, ◌≤◌, List, [], ◌∷◌, ◌++◌, length, take, drop, Some, None, Ok, Err, Option, Result, ◌≢◌, slice_index}
 use Rattle.activity.specs.declared.Activity.{Activity}
 use Rattle.program.specs.declared.command.Command.{Command}
 use Rattle.program.specs.declared.command.Command.TheVariants.{C, P, R, Close}
+use Rattle.program.specs.declared.command.Kind.{Kind}
+use Rattle.program.specs.declared.command.Kind.TheVariants.{Compensatable, Pivot, Retriable}
 use Rattle.program.specs.declared.refusal.Refusal.{Refusal}
 use Rattle.program.specs.declared.reader.Reader.{Reader}
-use Rattle.program.specs.Grammar.{mark, written, operands, bytes}
-use Rattle.program.specs.Refusals.{weight, step_count, opened, open_after, Within, Refused}
+use Rattle.program.specs.Grammar.{mark, written, command_of, operands}
+use Rattle.program.specs.Refusals.{weight, opened, open_after, Refused}
 use Rattle.program.specs.Contexts.{Context, in_body_at, at_pivot, in_row_at, closed, nowhere, end_mark, after_end, go, goes}
 
 abbrev pub text_of : Reader → List ℕ
@@ -27,22 +29,12 @@ abbrev pub Peeked : Reader → Option ℕ → Type 0
 Peeked r None = length (text_of r) ≤ r.at
 Peeked r (Some b) = (r.at < length (text_of r)) × (b ≡ byte_at r)
 
-pub record Sound (r : Reader) : Type 0 where
-  pub split : take r.at (text_of r) ≡ bytes (commands_of r)
-  pub inside : r.at ≤ length (text_of r)
-  pub short : length (text_of r) ≤ 255
-  pub long : length r.commands ≡ 255
-  pub room : r.len ≤ r.at
-  pub count : r.steps ≡ step_count (commands_of r)
-  pub within : Within (commands_of r)
-
 -- the bytes of the command c stand at the place
 pub record Spelled (r : Reader) (c : Command) : Type 0 where
   pub fits : r.at + length (written c) ≤ length (text_of r)
   pub spelled : take (length (written c)) (drop r.at (text_of r)) ≡ written c
 
 pub record Pushed (r r' : Reader) (c : Command) : Type 0 where
-  pub sound : Sound r'
   pub grown : commands_of r' ≡ commands_of r ++ c ∷ []
   pub same : text_of r' ≡ text_of r
   pub place : r'.at ≡ r.at + length (written c)
@@ -53,6 +45,10 @@ pub record StepNext (r : Reader) (c : Command) : Type 0 where
   pub letter : mark c ≡ byte_at r
   pub step : weight c ≡ 1
   pub leads : go (context r) c ≡ nowhere → ⊥
+
+-- a step of the kind k can stand at the place, and its letter does
+abbrev pub KindNext : Reader → Kind → Type 0
+KindNext r k = (s : Activity) → StepNext r (command_of k s)
 
 abbrev pub Operands : Reader → Result Activity Refusal → Type 0
 Operands r (Ok s) = (r.steps < 32) × (r.at + 4 ≤ length (text_of r)) × (take 4 (drop r.at (text_of r)) ≡ byte_at r ∷ operands s)
@@ -69,15 +65,14 @@ pub record MarkNext (r : Reader) (m : Command) : Type 0 where
   pub low : r.at < length (text_of r) → byte_at r ≡ mark m → open_after (opened 0 (commands_of r)) m ≤ 4
   pub only : r.at < length (text_of r) → Only r m
 
--- only the mark m can stand at the place, and it does not
-pub record OtherThan (r : Reader) (m : Command) : Type 0 where
-  pub next : MarkNext r m
-  pub other : r.at < length (text_of r) → byte_at r ≢ mark m
-
 -- the mark m was read
 pub record Passed (r r' : Reader) (m : Command) : Type 0 where
   pub stands : context r' ≡ go (context r) m
   pub further : r.at < r'.at
+
+-- a step of the kind k was read
+abbrev pub Stepped : Reader → Reader → Kind → Type 0
+Stepped r r' k = (s : Activity) × Passed r r' (command_of k s)
 
 -- nothing but the mark m can stand at the place, and it leads to st
 pub record Ready (r : Reader) (m : Command) (st : Context) : Type 0 where
@@ -97,8 +92,13 @@ pub record RowNext (r : Reader) (n : ℕ) : Type 0 where
   pub ends : go (context r) Close ≡ closed n
   pub others : r.at < length (text_of r) → (byte_at r ≢ 82) → Only r Close
 
+-- steps of the kind k may begin or go on: those of a body, or a row of retriable ones
+abbrev pub StepsNext : Kind → Reader → ℕ → Type 0
+StepsNext Compensatable = BodyNext
+StepsNext Pivot = λ r n. ⊥
+StepsNext Retriable = RowNext
+
 pub record Moved (r r' : Reader) : Type 0 where
-  pub sound : Sound r'
   pub same : text_of r' ≡ text_of r
   pub forward : r.at ≤ r'.at
 

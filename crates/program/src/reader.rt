@@ -1,12 +1,12 @@
 // The reader of program texts.
-ghost use Rattle.std.specs.Prelude.{◌≡◌, [], ◌∷◌, ◌++◌, replicate};
+ghost use Rattle.std.specs.Prelude.{◌≡◌, ℕ, ◌≤◌, [], ◌∷◌, ◌++◌, length, take, replicate};
 ghost use Rattle.program.specs.declared.command.Command.TheVariants.{Open, Close, Stop};
+ghost use Rattle.program.specs.Grammar.{bytes, written, letter_of, command_of};
 ghost use Rattle.program.specs.Contexts.{at_pivot, at_choice, closed, end_mark, after_end};
 ghost use Rattle.program.specs.Outcome.{Parsed};
-ghost use Rattle.program.specs.Refusals.{Within, Refused};
-ghost use Rattle.program.specs.Reads.{text_of, commands_of, context, Sound, Peeked, Spelled, Pushed, StepNext, Operands, MarkNext, OtherThan, Passed, Ready, BodyNext, RowNext, Reads, RowRead};
+ghost use Rattle.program.specs.Refusals.{step_count, Within};
 
-use crate::{Command, Fault, Program, Refusal};
+use crate::{Command, Fault, Kind, Program, Refusal};
 use activity::Activity;
 
 pub(crate) const MAX_BYTES: usize = 255;
@@ -27,6 +27,28 @@ pub(crate) fn blank() -> &'static [Command; MAX_BYTES]
     &BLANK
 }
 
+impl Command {
+    // How many bytes the command takes.
+    fn width(self) -> usize
+        ensures { result ≡ length (written self) }
+    {
+        if self.is_step() { STEP_BYTES } else { 1 }
+    }
+}
+
+impl Kind {
+    // The command of a step of the kind.
+    fn command(self, activity: Activity) -> Command
+        ensures { result ≡ command_of self activity }
+    {
+        match self {
+            Kind::Compensatable => Command::C(activity),
+            Kind::Pivot => Command::P(activity),
+            Kind::Retriable => Command::R(activity),
+        }
+    }
+}
+
 // A text, the place of the next byte, and what was read up to there.
 // The counters stand apart: side by side, the compiler adds to two of them at once, and then waits where one was written alone.
 #[derive(Drop)]
@@ -34,84 +56,80 @@ struct Reader<'a> {
     steps: usize,
     text: &'a [u8],
     at: usize,
+    // A table with its length: nothing here allocates, so the memory for the commands is fixed.
     commands: [Command; MAX_BYTES],
     len: usize,
+    ghost split: { take at text.now ≡ bytes (take len commands) },
+    ghost inside: { at ≤ length text.now },
+    ghost short: { length text.now ≤ 255 },
+    ghost long: { length commands ≡ 255 },
+    ghost room: { len ≤ at },
+    ghost count: { steps ≡ step_count (take len commands) },
+    ghost within: { Within (take len commands) },
 }
 
 impl Reader<'_> {
+    ghost use Rattle.program.specs.Reads.{commands_of, context, Peeked, Spelled, Pushed, Operands, MarkNext, Passed, Ready, BodyNext, StepNext, KindNext, StepsNext, Stepped, Reads, RowRead};
+
     // The next byte as a character, where there is one.
     fn peek(&self) -> Option<char>
         ensures { Peeked self.now result }
     {
-        if self.at < self.text.len() {
-            Some(self.text[self.at] as char)
-        } else {
-            None
-        }
+        self.text.get(self.at).copied().map(char::from)
     }
 
-    // Takes the command that stands at the place, and goes past it.
-    fn push(&mut self, command: Command)
-        requires sound { Sound self.old }
-        requires here { Spelled self.old command }
-        requires within { Within (commands_of self.old ++ command ∷ []) }
-        ensures { Pushed self.old self.new command }
+    // The refusal at the place.
+    fn refusal(&self, fault: Fault) -> Refusal
+        ensures { result ≡ record { fault = fault; place = self.now.at } }
     {
-        self.commands[self.len] = command;
-        self.len += 1;
-        if command.is_step() {
-            self.steps += 1;
-            self.at += STEP_BYTES;
-        } else {
-            self.at += 1;
-        }
-    }
-
-    // The operands of the step command whose letter stands at the place.
-    fn operands(&self) -> Result<Activity, Refusal>
-        requires sound { Sound self.now }
-        requires next { (c : Command) × StepNext self.now c }
-        ensures { Operands self.now result }
-    {
-        let place = self.at;
-        if self.steps == MAX_STEPS {
-            return Err(Refusal {
-                fault: Fault::TooManySteps,
-                place,
-            });
-        }
-        if self.text.len() - place < STEP_BYTES {
-            return Err(Refusal {
-                fault: Fault::CutOff,
-                place,
-            });
-        }
-        Ok(Activity {
-            number: self.text[place + 1],
-            parameter: self.text[place + 2] as u16 * 256 + self.text[place + 3] as u16,
-        })
-    }
-
-    // The refusal where only the mark m can stand, and it does not.
-    fn unexpected(&self) -> Refusal
-        requires sound { Sound self.now }
-        requires other { (m : Command) × OtherThan self.now m }
-        ensures { Refused (text_of self.now) result.fault result.place }
-    {
-        let fault = match self.peek() {
-            None => Fault::CutOff,
-            Some(_) => Fault::Misplaced,
-        };
         Refusal {
             fault,
             place: self.at,
         }
     }
 
+    // Takes the command that stands at the place, and goes past it.
+    fn push(&mut self, command: Command)
+        requires here { Spelled self.old command }
+        requires within { Within (commands_of self.old ++ command ∷ []) }
+        ensures { Pushed self.old self.new command }
+    {
+        self.commands[self.len] = command;
+        self.len += 1;
+        self.at += command.width();
+        self.steps += usize::from(command.is_step());
+    }
+
+    // The operands of the step command whose letter stands at the place.
+    fn operands(&self) -> Result<Activity, Refusal>
+        requires { (c : Command) × StepNext self.now c }
+        ensures { Operands self.now result }
+    {
+        if self.steps == MAX_STEPS {
+            return Err(self.refusal(Fault::TooManySteps));
+        }
+        let [_, number, high, low, ..] = &self.text[self.at..] else {
+            return Err(self.refusal(Fault::CutOff));
+        };
+        Ok(Activity {
+            number: *number,
+            parameter: u16::from_be_bytes([*high, *low]),
+        })
+    }
+
+    // Takes the step whose letter stands at the place.
+    fn step(&mut self, kind: Kind) -> Result<(), Refusal>
+        requires { KindNext self.old kind }
+        ensures { Reads self.old self.new (Stepped self.old self.new kind) result }
+    {
+        let activity = self.operands()?;
+        self.push(kind.command(activity));
+        Ok(())
+    }
+
     // The mark m, which is all that can stand at the place.
     fn expect(&mut self, m: Command) -> Result<(), Refusal>
-        requires sound { Sound self.old }
-        requires next { MarkNext self.old m }
+        requires { MarkNext self.old m }
         ensures { Reads self.old self.new (Passed self.old self.new m) result }
     {
         match self.peek() {
@@ -119,50 +137,45 @@ impl Reader<'_> {
                 self.push(m);
                 Ok(())
             }
-            _ => Err(self.unexpected()),
+            Some(_) => Err(self.refusal(Fault::Misplaced)),
+            None => Err(self.refusal(Fault::CutOff)),
         }
     }
 
     // The opening bracket of a pivot's choices, under `depth` open brackets.
     fn open(&mut self, depth: usize) -> Result<(), Refusal>
-        requires sound { Sound self.old }
-        requires next { context self.old ≡ at_pivot depth }
+        requires { context self.old ≡ at_pivot depth }
         ensures { Reads self.old self.new (Passed self.old self.new Open) result }
     {
         match self.peek() {
-            Some('[') if depth >= MAX_DEPTH => Err(Refusal {
-                fault: Fault::TooDeep,
-                place: self.at,
-            }),
+            Some('[') if depth >= MAX_DEPTH => Err(self.refusal(Fault::TooDeep)),
             _ => self.expect(Command::Open),
         }
     }
 
-    // Any number of compensatable steps of a body under `depth` open brackets.
-    fn compensatable_steps(&mut self, depth: usize) -> Result<(), Refusal>
-        requires sound { Sound self.old }
-        requires next { BodyNext self.old depth }
-        ensures { Reads self.old self.new (RowRead self.new 67 (BodyNext self.new depth)) result }
+    // Any number of steps of one kind: the compensatable ones of a body, or the retriable ones that end a pivot's choices.
+    fn steps(&mut self, kind: Kind, depth: usize) -> Result<(), Refusal>
+        requires { StepsNext kind self.old depth }
+        ensures { Reads self.old self.new (RowRead self.new (letter_of kind) (StepsNext kind self.new depth)) result }
     {
-        while let Some('C') = self.peek() {
-            let activity = self.operands()?;
-            self.push(Command::C(activity));
+        loop {
+            match (kind, self.peek()) {
+                (Kind::Compensatable, Some('C')) | (Kind::Retriable, Some('R')) => self.step(kind)?,
+                _ => return Ok(()),
+            }
         }
-        Ok(())
     }
 
     // A body under `depth` open brackets, up to the mark that ends it.
     #[cycle(body_choices)]
     fn body(&mut self, depth: usize) -> Result<(), Refusal>
-        requires sound { Sound self.old }
-        requires next { BodyNext self.old depth }
+        requires { BodyNext self.old depth }
         ensures { Reads self.old self.new (Ready self.new (end_mark depth) (after_end depth)) result }
     {
-        self.compensatable_steps(depth)?;
+        self.steps(Kind::Compensatable, depth)?;
         match self.peek() {
             Some('P') => {
-                let activity = self.operands()?;
-                self.push(Command::P(activity));
+                self.step(Kind::Pivot)?;
                 self.open(depth)?;
                 self.choices(depth)?;
                 self.expect(Command::Close)
@@ -174,32 +187,18 @@ impl Reader<'_> {
     // The choices of a pivot under `depth` open brackets, up to the closing bracket.
     #[cycle(body_choices)]
     fn choices(&mut self, depth: usize) -> Result<(), Refusal>
-        requires sound { Sound self.old }
-        requires next { context self.old ≡ at_choice depth }
+        requires { context self.old ≡ at_choice depth }
         ensures { Reads self.old self.new (Ready self.new Close (closed depth)) result }
     {
         loop {
             match self.peek() {
-                Some('R' | ']') => return self.retriable_steps(depth),
+                Some('R' | ']') => return self.steps(Kind::Retriable, depth),
                 _ => {
                     self.body(depth + 1)?;
                     self.expect(Command::Bar)?;
                 }
             }
         }
-    }
-
-    // A row of retriable steps, up to the closing bracket.
-    fn retriable_steps(&mut self, depth: usize) -> Result<(), Refusal>
-        requires sound { Sound self.old }
-        requires next { RowNext self.old depth }
-        ensures { Reads self.old self.new (Ready self.new Close (closed depth)) result }
-    {
-        while let Some('R') = self.peek() {
-            let activity = self.operands()?;
-            self.push(Command::R(activity));
-        }
-        Ok(())
     }
 }
 
@@ -223,14 +222,8 @@ pub fn parse(text: &[u8]) -> Result<Program, Refusal>
     reader.body(0)?;
     reader.expect(Command::Stop)?;
     if reader.at < text.len() {
-        return Err(Refusal {
-            fault: Fault::Trailing,
-            place: reader.at,
-        });
+        return Err(reader.refusal(Fault::Trailing));
     }
-    let commands = reader.commands;
-    Ok(Program {
-        commands,
-        len: reader.len,
-    })
+    let Reader { commands, len, .. } = reader;
+    Ok(Program { commands, len })
 }

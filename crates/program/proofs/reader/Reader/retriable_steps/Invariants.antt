@@ -1,9 +1,0 @@
-use Rattle.std.proofs.Common.{◌-◌, length}
-use Rattle.program.specs.Reads.{text_of, Moved, RowNext}
-use Rattle.program.proofs.reader.Reader.retriable_steps.Given as goal
-
-abbrev pub invariant-loop-self : goal.invariant-loop-self
-invariant-loop-self l = Moved l.initial.self l.self × RowNext l.self l.depth
-
-abbrev pub decreases-loop-self : goal.decreases-loop-self
-decreases-loop-self l = length (text_of l.self) - l.self.at
