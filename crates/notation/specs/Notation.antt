@@ -3,7 +3,7 @@ use Rattle.std.specs.Prelude.{◌≡◌, ℕ, ◌+◌, ◌-◌, ◌*◌, ◌/◌
 use Rattle.notation.specs.declared.sign.Sign.{Sign}
 use Rattle.notation.specs.declared.sign.Sign.TheVariants.{Blank, Command, Digit, Other}
 use Rattle.notation.specs.declared.decoding.Taken.{Taken}
-use Rattle.notation.specs.declared.decoding.Taken.TheVariants.{Passed, Waits, Gives, Wrong}
+use Rattle.notation.specs.declared.decoding.Taken.TheVariants.{Passed, Waits, Gives}
 use Rattle.notation.specs.declared.decoding.Unreadable.{Unreadable}
 use Rattle.notation.specs.declared.decoding.Unreadable.TheVariants.{At, NoMemory}
 
@@ -34,23 +34,24 @@ abbrev pub Low : Option ℕ → Type 0
 Low None = Unit {0}
 Low (Some d) = d < 16
 
-abbrev pub LowTaken : Taken → Type 0
-LowTaken Passed = Unit {0}
-LowTaken (Waits d) = d < 16
-LowTaken (Gives b) = Unit {0}
-LowTaken Wrong = Unit {0}
+abbrev pub LowTaken : Option Taken → Type 0
+LowTaken (Some Passed) = Unit {0}
+LowTaken (Some (Waits d)) = d < 16
+LowTaken (Some (Gives b)) = Unit {0}
+LowTaken None = Unit {0}
 
 -- ---- what a line stands for
--- One more character, where a high digit may be waiting for its low one. A command's letter or mark is its own byte.
-abbrev pub taken_by : Option ℕ → ℕ → Sign → Taken
-taken_by waiting c Blank = Passed
-taken_by None c Command = Gives c
-taken_by (Some h) c Command = Wrong
-taken_by None c (Digit d) = Waits d
-taken_by (Some h) c (Digit d) = Gives (h * 16 + d)
-taken_by waiting c Other = Wrong
+-- One more character, where a high digit may be waiting for its low one, or none where it cannot stand.
+-- A command's letter or mark is its own byte.
+abbrev pub taken_by : Option ℕ → ℕ → Sign → Option Taken
+taken_by waiting c Blank = Some Passed
+taken_by None c Command = Some (Gives c)
+taken_by (Some h) c Command = None
+taken_by None c (Digit d) = Some (Waits d)
+taken_by (Some h) c (Digit d) = Some (Gives (h * 16 + d))
+taken_by waiting c Other = None
 
-abbrev pub taken : Option ℕ → ℕ → Taken
+abbrev pub taken : Option ℕ → ℕ → Option Taken
 taken waiting c = taken_by waiting c (sign_of c)
 
 -- bytes in front of those that follow; a column at which the line cannot be read stays
@@ -59,11 +60,11 @@ with_front front (Ok bs) = Ok (front ++ bs)
 with_front front (Err k) = Err k
 
 -- what a character taken at the column k does to the reading of what follows it
-abbrev pub read_on : ℕ → Option ℕ → Taken → (Option ℕ → Result (List ℕ) ℕ) → Result (List ℕ) ℕ
-read_on k waiting Passed rest = rest waiting
-read_on k waiting (Waits d) rest = rest (Some d)
-read_on k waiting (Gives b) rest = with_front (b ∷ []) (rest None)
-read_on k waiting Wrong rest = Err k
+abbrev pub read_on : ℕ → Option ℕ → Option Taken → (Option ℕ → Result (List ℕ) ℕ) → Result (List ℕ) ℕ
+read_on k waiting (Some Passed) rest = rest waiting
+read_on k waiting (Some (Waits d)) rest = rest (Some d)
+read_on k waiting (Some (Gives b)) rest = with_front (b ∷ []) (rest None)
+read_on k waiting None rest = Err k
 
 -- at the end of a line no digit may wait
 abbrev pub ended : ℕ → Option ℕ → Result (List ℕ) ℕ
