@@ -68,16 +68,20 @@ fn row_mark(command: Command) -> bool
 }
 
 impl Program {
+    // The commands of the text.
+    pub fn commands(&self) -> &[Command]
+        ensures text { result.now ≡ text_commands (tree self.now) }
+        ensures table { result.now ≡ program_commands self.now }
+    {
+        &self.commands[..self.len]
+    }
+
     // The command at a place, from 0, of the text.
     pub fn command(&self, at: usize) -> Option<Command>
         ensures there { result ≡ nth (text_commands (tree self.now)) at }
         ensures first { result ≡ first (drop at (program_commands self.now)) }
     {
-        if at < self.len {
-            Some(self.commands[at])
-        } else {
-            None
-        }
+        self.commands().get(at).copied()
     }
 
     // The step that stands next at a cursor.
