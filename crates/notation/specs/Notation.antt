@@ -1,5 +1,5 @@
 -- The written notation of program texts: what a line of characters stands for, and how bytes are written.
-use Rattle.std.specs.Prelude.{◌≡◌, ℕ, ◌+◌, ◌-◌, ◌*◌, ◌/◌, ◌%◌, ◌<◌, Bool, cond, ◌&&◌, ◌||◌, List, [], ◌∷◌, ◌++◌, length, Some, None, Ok, Err, Option, Result, ◌==◌, nat_le, nat_lt}
+use Rattle.std.specs.Prelude.{◌≡◌, ℕ, ◌+◌, ◌-◌, ◌*◌, ◌/◌, ◌%◌, ◌^◌, ◌<◌, Bool, cond, ◌&&◌, ◌||◌, List, [], ◌∷◌, ◌++◌, length, Some, None, Ok, Err, Option, Result, ◌==◌, nat_le, nat_lt, min, codes, decimal}
 use Rattle.notation.specs.declared.sign.Sign.{Sign}
 use Rattle.notation.specs.declared.sign.Sign.TheVariants.{Blank, Command, Digit, Other}
 use Rattle.notation.specs.declared.decoding.Taken.{Taken}
@@ -84,6 +84,11 @@ abbrev pub Decoded : {V : Type 0} → (V → List ℕ) → List ℕ → Result V
 Decoded items line (Ok v) = bytes_of line ≡ Ok (items v)
 Decoded items line (Err (At k)) = bytes_of line ≡ Err k
 Decoded items line (Err NoMemory) = Unit {0}
+
+-- why a line gives no bytes, in words: columns are shown from 1
+abbrev pub unreadable_shown : Unreadable → List ℕ
+unreadable_shown (At k) = codes "the line cannot be read from column " ++ (decimal (min (k + 1) (2 ^ 64 - 1)) ++ codes " on")
+unreadable_shown NoMemory = codes "out of memory"
 
 -- ---- how bytes are written
 -- how many operand bytes are to come after a byte, where `due` were to come before it: three follow C, P and R

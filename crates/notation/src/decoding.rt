@@ -27,6 +27,11 @@ impl<T: Drop> From<AllocFailed<T>> for Unreadable {
 
 // People count columns from 1.
 impl fmt::Display for Unreadable {
+    ghost use Rattle.std.specs.Prelude.{Some};
+    ghost use Rattle.notation.specs.Notation.{unreadable_shown};
+
+    ghost output = { λ e. Some (unreadable_shown e) };
+
     fn fmt<W: fmt::Write>(&self, f: &mut fmt::Formatter<W>) -> fmt::Result {
         match self {
             Unreadable::At(column) => {
