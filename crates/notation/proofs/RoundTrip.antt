@@ -1,5 +1,5 @@
 -- Reading back what was written gives the same bytes.
-use Rattle.std.proofs.Common.{◌≡◌, ℕ, suc, ◌+◌, ◌*◌, ◌/◌, ◌%◌, ◌<◌, Bool, true, false, cond, ◌&&◌, ◌||◌, eqb, List, [], ◌∷◌, ◌++◌, length, get_or, None, Ok, sym, refl, ap, ◌∙◌, subst, append_assoc, append-nil, arith}
+use Rattle.std.proofs.Common.{◌≡◌, ℕ, suc, ◌+◌, ◌*◌, ◌/◌, ◌%◌, ◌<◌, Bool, true, false, cond, ◌&&◌, ◌||◌, eqb, List, [], ◌∷◌, ◌++◌, length, get_or, None, Some, Ok, sym, refl, ap, ◌∙◌, subst, append_assoc, append-nil, arith}
 use Rattle.std.proofs.lemmas.Bool.Decides.{nat_tests}
 use Rattle.notation.specs.declared.sign.Sign.TheVariants.{Command, Digit}
 use Rattle.notation.specs.Notation.{is_command, sign_of, hex, with_front, bytes_from, bytes_of, due_after, unit, gap, written_on, written}
@@ -21,10 +21,10 @@ both xs ys bs cs p q k zs =
 blank : StandsFor (32 ∷ []) []
 blank k ys = (k + 1, sym (front_none (bytes_from (k + 1) None ys)))
 
-hex_sign : (d : ℕ) → d < 16 → sign_of (hex d) ≡ Digit d
+hex_sign : (d : ℕ) → d < 16 → sign_of (hex d) ≡ Some (Digit d)
 hex_sign d h = grind (arith, nat_tests)
 
-command_sign : (c : ℕ) → is_command c ≡ true → sign_of c ≡ Command
+command_sign : (c : ℕ) → is_command c ≡ true → sign_of c ≡ Some Command
 command_sign c e = grind (arith, nat_tests)
 
 -- a byte as a command's letter or mark, or as two digits

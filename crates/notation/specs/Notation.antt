@@ -1,7 +1,7 @@
 -- The written notation of program texts: what a line of characters stands for, and how bytes are written.
 use Rattle.std.specs.Prelude.{◌≡◌, ℕ, ◌+◌, ◌-◌, ◌*◌, ◌/◌, ◌%◌, ◌^◌, ◌<◌, Bool, cond, ◌&&◌, ◌||◌, List, [], ◌∷◌, ◌++◌, length, Some, None, Ok, Err, Option, Result, ◌==◌, nat_le, nat_lt, min, codes, decimal}
 use Rattle.notation.specs.declared.sign.Sign.{Sign}
-use Rattle.notation.specs.declared.sign.Sign.TheVariants.{Blank, Command, Digit, Other}
+use Rattle.notation.specs.declared.sign.Sign.TheVariants.{Blank, Command, Digit}
 use Rattle.notation.specs.declared.decoding.Taken.{Taken}
 use Rattle.notation.specs.declared.decoding.Taken.TheVariants.{Passed, Waits, Gives}
 use Rattle.notation.specs.declared.decoding.Unreadable.{Unreadable}
@@ -12,23 +12,24 @@ use Rattle.notation.specs.declared.decoding.Unreadable.TheVariants.{At, NoMemory
 abbrev pub is_command : ℕ → Bool
 is_command c = c == 67 || (c == 80 || (c == 82 || (c == 91 || (c == 124 || (c == 93 || c == 46)))))
 
-abbrev pub sign_of : ℕ → Sign
+-- what a character is: a blank or a tab, a command's letter or mark, 0 to 9, a to f, or none of these
+abbrev pub sign_of : ℕ → Option Sign
 sign_of c =
-    cond (c == 32 || c == 9) Blank (
-    cond (is_command c) Command (
-    cond (nat_le 48 c && nat_lt c 58) (Digit (c - 48)) (
-    cond (nat_le 97 c && nat_lt c 103) (Digit (c - 87)) Other)))
+    cond (c == 32 || c == 9) (Some Blank) (
+    cond (is_command c) (Some Command) (
+    cond (nat_le 48 c && nat_lt c 58) (Some (Digit (c - 48))) (
+    cond (nat_le 97 c && nat_lt c 103) (Some (Digit (c - 87))) None)))
 
 -- the character of a digit below 16
 abbrev pub hex : ℕ → ℕ
 hex d = cond (nat_lt d 10) (48 + d) (87 + d)
 
 -- a digit is below 16
-abbrev pub LowSign : Sign → Type 0
-LowSign Blank = Unit {0}
-LowSign Command = Unit {0}
-LowSign (Digit d) = d < 16
-LowSign Other = Unit {0}
+abbrev pub LowSign : Option Sign → Type 0
+LowSign None = Unit {0}
+LowSign (Some Blank) = Unit {0}
+LowSign (Some Command) = Unit {0}
+LowSign (Some (Digit d)) = d < 16
 
 abbrev pub Low : Option ℕ → Type 0
 Low None = Unit {0}
@@ -43,13 +44,13 @@ LowTaken None = Unit {0}
 -- ---- what a line stands for
 -- One more character, where a high digit may be waiting for its low one, or none where it cannot stand.
 -- A command's letter or mark is its own byte.
-abbrev pub taken_by : Option ℕ → ℕ → Sign → Option Taken
-taken_by waiting c Blank = Some Passed
-taken_by None c Command = Some (Gives c)
-taken_by (Some h) c Command = None
-taken_by None c (Digit d) = Some (Waits d)
-taken_by (Some h) c (Digit d) = Some (Gives (h * 16 + d))
-taken_by waiting c Other = None
+abbrev pub taken_by : Option ℕ → ℕ → Option Sign → Option Taken
+taken_by waiting c None = None
+taken_by waiting c (Some Blank) = Some Passed
+taken_by None c (Some Command) = Some (Gives c)
+taken_by (Some h) c (Some Command) = None
+taken_by None c (Some (Digit d)) = Some (Waits d)
+taken_by (Some h) c (Some (Digit d)) = Some (Gives (h * 16 + d))
 
 abbrev pub taken : Option ℕ → ℕ → Option Taken
 taken waiting c = taken_by waiting c (sign_of c)

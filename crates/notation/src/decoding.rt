@@ -59,12 +59,12 @@ fn take(waiting: Option<u8>, c: u8) -> Option<Taken>
     ensures is { result ≡ taken waiting c }
     ensures low { LowTaken result }
 {
-    match (waiting, sign_of(c)) {
+    match (waiting, sign_of(c)?) {
         (_, Sign::Blank) => Some(Taken::Passed),
         (None, Sign::Command) => Some(Taken::Gives(c)),
+        (Some(_), Sign::Command) => None,
         (None, Sign::Digit(d)) => Some(Taken::Waits(d)),
         (Some(h), Sign::Digit(d)) => Some(Taken::Gives(h * 16 + d)),
-        _ => None,
     }
 }
 

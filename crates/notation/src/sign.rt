@@ -2,25 +2,25 @@
 ghost use Rattle.std.specs.Prelude.{◌≡◌, ◌<◌};
 ghost use Rattle.notation.specs.Notation.{sign_of, LowSign, hex, is_command};
 
-// A blank, a command's letter or mark, a hexadecimal digit, or none of these.
+// A blank, a command's letter or mark, or a hexadecimal digit.
 #[derive(Clone, Copy, Debug, PartialEq, Eq)]
 pub(crate) enum Sign {
     Blank,
     Command,
     Digit(u8),
-    Other,
 }
 
-pub(crate) fn sign_of(c: u8) -> Sign
+// The sign that a character is, if any.
+pub(crate) fn sign_of(c: u8) -> Option<Sign>
     ensures is { result ≡ sign_of c }
     ensures low { LowSign result }
 {
     match c {
-        b' ' | b'\t' => Sign::Blank,
-        b'0'..=b'9' => Sign::Digit(c - b'0'),
-        b'a'..=b'f' => Sign::Digit(c - b'a' + 10),
-        _ if is_command(c) => Sign::Command,
-        _ => Sign::Other,
+        b' ' | b'\t' => Some(Sign::Blank),
+        b'0'..=b'9' => Some(Sign::Digit(c - b'0')),
+        b'a'..=b'f' => Some(Sign::Digit(c - b'a' + 10)),
+        _ if is_command(c) => Some(Sign::Command),
+        _ => None,
     }
 }
 
