@@ -1,8 +1,8 @@
 -- Reading back what was written gives the same bytes.
-use Rattle.std.proofs.Common.{◌≡◌, ℕ, suc, ◌+◌, ◌*◌, ◌/◌, ◌%◌, ◌<◌, Bool, true, false, cond, ◌&&◌, ◌||◌, eqb, List, [], ◌∷◌, ◌++◌, length, get_or, Some, None, Ok, sym, refl, ap, ◌∙◌, subst, append_assoc, append-nil, arith}
+use Rattle.std.proofs.Common.{◌≡◌, ℕ, suc, ◌+◌, ◌*◌, ◌/◌, ◌%◌, ◌<◌, Bool, true, false, cond, ◌&&◌, ◌||◌, eqb, List, [], ◌∷◌, ◌++◌, length, get_or, None, Some, Ok, sym, refl, ap, ◌∙◌, subst, append_assoc, append-nil, arith}
 use Rattle.std.proofs.lemmas.Bool.Decides.{nat_tests}
 use Rattle.notation.specs.declared.sign.Sign.TheVariants.{Command, Digit}
-use Rattle.notation.specs.Notation.{is_command, sign_of, hex, taken_by, with_front, read_on, bytes_from, bytes_of, due_after, unit, gap, written_on, written}
+use Rattle.notation.specs.Notation.{is_command, sign_of, hex, with_front, bytes_from, bytes_of, due_after, unit, gap, written_on, written}
 use Rattle.notation.proofs.Reading.{front_none, front_more}
 
 -- the line xs, wherever it begins and whatever follows it, stands for the bytes bs
@@ -16,36 +16,28 @@ both : (xs ys bs cs : List ℕ) → StandsFor xs bs → StandsFor ys cs → Stan
 both xs ys bs cs p q k zs =
     let a = p k (ys ++ zs) in
     let b = q a.0 zs in
-    (b.0, ap (bytes_from k None) (append_assoc xs ys zs) ∙ a.1 ∙ ap (with_front bs) b.1 ∙ sym (front_more bs cs (bytes_from b.0 None zs)))
+    (b.0, rw (append_assoc, front_more) (a.1 ∙ ap (with_front bs) b.1))
 
 blank : StandsFor (32 ∷ []) []
 blank k ys = (k + 1, sym (front_none (bytes_from (k + 1) None ys)))
 
-hex_sign : (d : ℕ) → d < 16 → sign_of (hex d) ≡ Digit d
+hex_sign : (d : ℕ) → d < 16 → sign_of (hex d) ≡ Some (Digit d)
 hex_sign d h = grind (arith, nat_tests)
 
-command_sign : (c : ℕ) → is_command c ≡ true → sign_of c ≡ Command
+command_sign : (c : ℕ) → is_command c ≡ true → sign_of c ≡ Some Command
 command_sign c e = grind (arith, nat_tests)
-
-and_right : (p q : Bool) → p && q ≡ true → q ≡ true
-and_right true q e = e
-and_right false q e = cc
 
 -- a byte as a command's letter or mark, or as two digits
 unit_by : (t : Bool) (b : ℕ) → (t ≡ true → is_command b ≡ true) → b < 256 → StandsFor (cond t (b ∷ []) (hex (b / 16) ∷ hex (b % 16) ∷ [])) (b ∷ [])
-unit_by true b is h k ys = (k + 1, ap (λ s. read_on k None (taken_by None b s) (λ w. bytes_from (k + 1) w ys)) (command_sign b (is refl)))
+unit_by true b is h k ys = (k + 1, rw (command_sign b (is refl)) refl)
 unit_by false b is h k ys =
-    let high : b / 16 < 16 = omega arith in
-    let low : b % 16 < 16 = omega arith in
-    let whole : b / 16 * 16 + b % 16 ≡ b = omega arith in (
-      k + 1 + 1,
-      ap (λ s. read_on k None (taken_by None (hex (b / 16)) s) (λ w. bytes_from (k + 1) w (hex (b % 16) ∷ ys))) (hex_sign (b / 16) high)
-          ∙ ap (λ s. read_on (k + 1) (Some (b / 16)) (taken_by (Some (b / 16)) (hex (b % 16)) s) (λ w. bytes_from (k + 1 + 1) w ys)) (hex_sign (b % 16) low)
-          ∙ ap (λ x. with_front (x ∷ []) (bytes_from (k + 1 + 1) None ys)) whole,
-    )
+    let high = hex_sign (b / 16) (omega arith) in
+    let low = hex_sign (b % 16) (omega arith) in
+    let whole : b / 16 * 16 + b % 16 ≡ b = omega arith in
+    (k + 1 + 1, rw (high, low, whole) refl)
 
 unit_stands : (due b : ℕ) → b < 256 → StandsFor (unit due b) (b ∷ [])
-unit_stands due b h = unit_by (eqb due 0 && is_command b) b (and_right (eqb due 0) (is_command b)) h
+unit_stands due b h = unit_by (eqb due 0 && is_command b) b (λ e. grind (arith, nat_tests)) h
 
 gap_by : (t : Bool) → StandsFor (cond t [] (32 ∷ [])) []
 gap_by true = nothing
@@ -54,13 +46,10 @@ gap_by false = blank
 written_stands : (bs out : List ℕ) (due : ℕ) (done : List ℕ) → StandsFor out done → ((i : ℕ) → get_or bs i 0 < 256) → StandsFor (written_on out due bs) (done ++ bs)
 written_stands [] out due done p low = subst (StandsFor out) (sym (append-nil done)) p
 written_stands (b ∷ bs) out due done p low =
-    let front = both out (gap out due) done [] p (gap_by (eqb due 1 || eqb (length out) 0)) in
-    let next = both (out ++ gap out due) (unit due b) (done ++ []) (b ∷ []) front (unit_stands due b (low 0)) in
-    let rest = written_stands bs ((out ++ gap out due) ++ unit due b) (due_after due b) ((done ++ []) ++ b ∷ []) next (λ i. low (suc i)) in
-    let same : ((done ++ []) ++ b ∷ []) ++ bs ≡ done ++ b ∷ bs = append_assoc (done ++ []) (b ∷ []) bs ∙ ap (λ xs. xs ++ b ∷ bs) (append-nil done) in
-    subst (StandsFor (written_on out due (b ∷ bs))) same rest
+    let gapped = both out (gap out due) done [] p (gap_by (eqb due 1 || eqb (length out) 0)) in
+    let next = both (out ++ gap out due) (unit due b) (done ++ []) (b ∷ []) gapped (unit_stands due b (low 0)) in
+    let same : ((done ++ []) ++ b ∷ []) ++ bs ≡ done ++ b ∷ bs = simp (append-nil, append_assoc) in
+    subst (StandsFor (written_on out due (b ∷ bs))) same (written_stands bs _ (due_after due b) _ next (λ i. low (suc i)))
 
 pub back : (bs : List ℕ) → ((i : ℕ) → get_or bs i 0 < 256) → bytes_of (written bs) ≡ Ok bs
-back bs low =
-    let w = written_stands bs [] 0 [] nothing low 0 [] in
-    ap (bytes_from 0 None) (sym (append-nil (written bs))) ∙ w.1 ∙ ap Ok (append-nil bs)
+back bs low = let w = written_stands bs [] 0 [] nothing low 0 [] in simp append-nil at w.1

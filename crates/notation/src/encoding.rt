@@ -9,12 +9,9 @@ use std::alloc::{AllocError, Global};
 fn due_after(due: u8, byte: u8) -> u8
     ensures { result ≡ due_after due byte }
 {
-    if due > 0 {
-        due - 1
-    } else if byte == 67 || byte == 80 || byte == 82 {
-        3
-    } else {
-        0
+    match byte {
+        b'C' | b'P' | b'R' if due == 0 => 3,
+        _ => due.saturating_sub(1),
     }
 }
 
@@ -23,7 +20,7 @@ fn put(out: &mut String, c: u8) -> Result<(), AllocError>
     requires { c < 128 }
     ensures { OnOk result (string_bytes out.new ≡ string_bytes out.old ++ c ∷ []) }
 {
-    out.push(c as char)
+    out.push(char::from(c))
 }
 
 // The blank before a byte: none at the beginning, and none between the two bytes of a parameter.
@@ -33,7 +30,7 @@ fn put_gap(out: &mut String, due: u8) -> Result<(), AllocError>
     if due == 1 || out.is_empty() {
         Ok(())
     } else {
-        put(out, 32)
+        put(out, b' ')
     }
 }
 
@@ -58,16 +55,17 @@ fn put_unit(out: &mut String, due: u8, byte: u8) -> Result<(), AllocError>
 }
 
 // The notation of some bytes; reading it back gives the same bytes.
+#[tactic(auto, using(crate::proofs::RoundTrip::back))]
 pub fn encode(heap: Global, bytes: &[u8]) -> Result<String, AllocError>
     ensures value { IfOk result (λ s. string_bytes s ≡ written bytes.now) }
     ensures back { bytes_of (written bytes.now) ≡ Ok bytes.now }
 {
     let mut out = String::new(heap);
     let mut due = 0;
-    for byte in bytes {
+    for &byte in bytes {
         put_gap(&mut out, due)?;
-        put_unit(&mut out, due, *byte)?;
-        due = due_after(due, *byte);
+        put_unit(&mut out, due, byte)?;
+        due = due_after(due, byte);
     }
     Ok(out)
 }

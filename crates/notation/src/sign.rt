@@ -2,29 +2,25 @@
 ghost use Rattle.std.specs.Prelude.{◌≡◌, ◌<◌};
 ghost use Rattle.notation.specs.Notation.{sign_of, LowSign, hex, is_command};
 
-// A blank, a command's letter or mark, a hexadecimal digit, or none of these.
-#[derive(Clone, Copy)]
+// A blank, a command's letter or mark, or a hexadecimal digit.
+#[derive(Clone, Copy, Debug, PartialEq, Eq)]
 pub(crate) enum Sign {
     Blank,
     Command,
     Digit(u8),
-    Other,
 }
 
-pub(crate) fn sign_of(c: u8) -> Sign
+// The sign that a character is, if any.
+pub(crate) fn sign_of(c: u8) -> Option<Sign>
     ensures is { result ≡ sign_of c }
     ensures low { LowSign result }
 {
-    if c == 32 || c == 9 {
-        Sign::Blank
-    } else if is_command(c) {
-        Sign::Command
-    } else if c >= 48 && c < 58 {
-        Sign::Digit(c - 48)
-    } else if c >= 97 && c < 103 {
-        Sign::Digit(c - 87)
-    } else {
-        Sign::Other
+    match c {
+        b' ' | b'\t' => Some(Sign::Blank),
+        b'0'..=b'9' => Some(Sign::Digit(c - b'0')),
+        b'a'..=b'f' => Some(Sign::Digit(c - b'a' + 10)),
+        _ if is_command(c) => Some(Sign::Command),
+        _ => None,
     }
 }
 
@@ -32,10 +28,7 @@ pub(crate) fn sign_of(c: u8) -> Sign
 pub(crate) fn is_command(c: u8) -> bool
     ensures { result ≡ is_command c }
 {
-    match c as char {
-        'C' | 'P' | 'R' | '[' | '|' | ']' | '.' => true,
-        _ => false,
-    }
+    matches!(c, b'C' | b'P' | b'R' | b'[' | b'|' | b']' | b'.')
 }
 
 // The character of a hexadecimal digit.
@@ -43,5 +36,8 @@ pub(crate) fn hex(digit: u8) -> u8
     requires { digit < 16 }
     ensures { result ≡ hex digit }
 {
-    if digit < 10 { 48 + digit } else { 87 + digit }
+    match digit {
+        0..=9 => b'0' + digit,
+        _ => b'a' + (digit - 10),
+    }
 }

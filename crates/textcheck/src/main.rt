@@ -7,9 +7,11 @@ mod lines;
 mod tree;
 
 use std::env;
-use std::io::{BufRead, BufReader};
+use std::io::{BufRead, BufReader, Read};
+use std::rt::Env;
 
-fn run(rt: &HostRuntime) -> anyhow::Result<()> {
+// Reads to the end of the input. A line need not be UTF-8, and the last one need not end in a line feed.
+fn run(rt: &(impl Env + Print + AllocGlobal), input: impl Read + Drop) -> anyhow::Result<()> {
     let mut args = env::args(rt)?;
     let _program = args.next();
     if let Some(word) = args.next() {
@@ -19,18 +21,15 @@ fn run(rt: &HostRuntime) -> anyhow::Result<()> {
         help::show(rt)?;
         return Ok(());
     }
-    let mut input = BufReader::new(rt.alloc(), rt.stdin())?;
-    let mut line = Vec::new(rt.alloc());
-    for number in 1..u64::MAX {
-        line.clear();
-        if input.read_until(b'\n', &mut line)? == 0 {
-            break;
-        }
-        lines::show(rt, number, lines::without_end(line.as_slice()))?;
+    let lines = BufReader::new(rt.alloc(), input)?.split(rt.alloc(), b'\n');
+    for (number, line) in (1u64..).zip(lines) {
+        let line = line?;
+        let line = line.as_slice();
+        lines::show(rt, number, line.strip_suffix(b"\r").unwrap_or(line))?;
     }
     Ok(())
 }
 
 fn main(rt: HostRuntime) -> anyhow::Result<()> {
-    run(&rt)
+    run(&rt, rt.stdin())
 }
