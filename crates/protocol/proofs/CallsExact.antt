@@ -7,7 +7,7 @@ use Rattle.program.specs.declared.command.Kind.{Kind}
 use Rattle.program.specs.declared.command.Kind.TheVariants.{Compensatable, Pivot, Retriable}
 use Rattle.program.specs.declared.command.Step.{Step}
 use Rattle.program.specs.Grammar.{Body, body_steps}
-use Rattle.protocol.specs.declared.answer.Answer.{Answer}
+use Rattle.protocol.specs.Answer.{Answer}
 use Rattle.protocol.specs.declared.answer.Refusal.{Refusal}
 use Rattle.protocol.specs.declared.answer.Refusal.TheVariants.{NoPlace, Busy, NoActivity, WrongKind, NotLoaded, Full, NoNumber, NoRoom, LongList}
 use Rattle.protocol.specs.declared.scan.Request.{Request}

@@ -2,7 +2,7 @@
 use Rattle.std.specs.Prelude.{ℕ, suc, min, Bool, true, false, cond, not, List, [], ◌∷◌, ◌++◌, map, replicate, Some, None, filter, Option, ◌==◌, slice_index_or, slice_set}
 use Rattle.activity.specs.declared.Activity.{Activity}
 use Rattle.protocol.specs.declared.record.Record.{Record}
-use Rattle.protocol.specs.declared.answer.Answer.{Answer}
+use Rattle.protocol.specs.Answer.{Answer}
 use Rattle.protocol.specs.declared.standing.Aim.TheVariants.{End}
 use Rattle.protocol.specs.declared.standing.Direction.{Direction}
 use Rattle.protocol.specs.declared.standing.Direction.TheVariants.{Forward, Back}

@@ -1,8 +1,8 @@
 -- The letters and numbers of scan records and answers.
-use Rattle.std.specs.Prelude.{ℕ, Option, ◌==◌}
+use Rattle.std.specs.Prelude.{ℕ, Option, ◌==◌, Ok, Err}
 use Rattle.program.specs.Refusals.{number_of}
-use Rattle.protocol.specs.declared.answer.Answer.{Answer}
-use Rattle.protocol.specs.declared.answer.Answer.TheVariants.{Loaded, Opened, Cancelled, Stepped, Refused}
+use Rattle.protocol.specs.Answer.{Answer}
+use Rattle.protocol.specs.declared.answer.Served.TheVariants.{Loaded, Opened, Cancelled, Stepped}
 use Rattle.protocol.specs.declared.answer.Layer.{Layer}
 use Rattle.protocol.specs.declared.answer.Layer.TheVariants as layers
 use Rattle.protocol.specs.declared.answer.Refusal.{Refusal}
@@ -65,8 +65,8 @@ write_turn r (turns.Next k) = write r 78 k
 write_turn r (turns.Committed c) = write r 75 c
 
 abbrev pub written : Request → Answer → Request
-written r Loaded = r
-written r (Opened n) = write r 79 n
-written r Cancelled = write r 88 0
-written r (Stepped t) = write_turn r t
-written r (Refused f) = write r 33 (code f)
+written r (Ok Loaded) = r
+written r (Ok (Opened n)) = write r 79 n
+written r (Ok Cancelled) = write r 88 0
+written r (Ok (Stepped t)) = write_turn r t
+written r (Err f) = write r 33 (code f)

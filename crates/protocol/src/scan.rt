@@ -1,7 +1,7 @@
 // Scan lists.
 
 // A record of a scan list: a call, by its kind (the byte of O, S or X) and operand, and in the last two fields its answer.
-#[derive(Clone, Copy)]
+#[derive(Clone, Copy, Debug, PartialEq, Eq)]
 pub struct Request {
     pub kind: u8,
     pub operand: u16,
