@@ -4,7 +4,8 @@ use Rattle.std.specs.List.{AllByRecursion}
 use Rattle.std.proofs.ByRecursion.{All-weaker}
 use Rattle.std.proofs.lemmas.Bool.{leb-false}
 use Rattle.serial.specs.Sorts.{Pairwise}
-use Rattle.protocol.specs.Options.{when, else}
+use Rattle.std.specs.Bool.{then_some}
+use Rattle.std.specs.Option.{option_or}
 use Rattle.activity.specs.declared.Activity.{Activity}
 use Rattle.protocol.specs.declared.answer.Refusal.TheVariants.{NoPlace, NotLoaded, Full, NoNumber, NoRoom}
 use Rattle.protocol.specs.declared.standing.Aim.TheVariants.{Restart, End}
@@ -59,11 +60,11 @@ rising_push : (ps : List Process) (q : Process) → Pairwise (λ a b. a.start < 
 rising_push [] q h x = (tt, tt)
 rising_push (p ∷ ps) q h x = (all_push (λ b. p.start < b.start) ps q h.0 x.0, rising_push ps q h.1 x.1)
 
-else_none : {X : Type 0} (a b : Option X) → else a b ≡ None → (a ≡ None) × (b ≡ None)
+else_none : {X : Type 0} (a b : Option X) → option_or a b ≡ None → (a ≡ None) × (b ≡ None)
 else_none None b e = (refl, e)
 else_none (Some x) b e = absurd (none_some (sym e))
 
-when_none : {X : Type 0} (b : Bool) (x : X) → when b x ≡ None → b ≡ false
+when_none : {X : Type 0} (b : Bool) (x : X) → then_some b x ≡ None → b ≡ false
 when_none true x e = absurd (none_some (sym e))
 when_none false x e = refl
 
@@ -110,11 +111,11 @@ module _ {S : Type 0} where
 
       opens : (k : ℕ) → against_open h k ≡ None → Bounded (Rattle.protocol.specs.CallFunction.opened h k).hall
       opens k e =
-          let room = when (ltb 1024 (length (committed_records h.log) + 32 * (length h.processes + 1))) NoRoom in
-          let numbers = when (leb 65535 h.given) NoNumber in
-          let full = when (leb 16 (length h.processes)) Full in
-          let loaded = when (not (is_some (get_or h.programs k None))) NotLoaded in
-          let (x, y) = else_none full (else numbers room) (else_none loaded (else full (else numbers room)) (else_none (when (ltb 7 k) NoPlace) (else loaded (else full (else numbers room))) e).1).1 in
+          let room = then_some (ltb 1024 (length (committed_records h.log) + 32 * (length h.processes + 1))) NoRoom in
+          let numbers = then_some (leb 65535 h.given) NoNumber in
+          let full = then_some (leb 16 (length h.processes)) Full in
+          let loaded = then_some (not (is_some (get_or h.programs k None))) NotLoaded in
+          let (x, y) = else_none full (option_or numbers room) (else_none loaded (option_or full (option_or numbers room)) (else_none (then_some (ltb 7 k) NoPlace) (option_or loaded (option_or full (option_or numbers room))) e).1).1 in
           let few : length h.processes < 16 = leb-false 16 (length h.processes) (when_none _ Full x) in
           let low : h.given < 65535 = leb-false 65535 h.given (when_none _ NoNumber (else_none numbers room y).0) in
           let new = length_push h.processes record { start = suc h.given; place = k; standing = Running; at = beginning h.programs k } in

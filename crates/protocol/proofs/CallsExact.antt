@@ -13,7 +13,8 @@ use Rattle.protocol.specs.declared.answer.Refusal.TheVariants.{NoPlace, Busy, No
 use Rattle.protocol.specs.declared.scan.Request.{Request}
 use Rattle.protocol.specs.declared.standing.Standing.{Standing}
 use Rattle.protocol.specs.declared.standing.Standing.TheVariants.{Running, Withdrawing, PastPivot}
-use Rattle.protocol.specs.Options.{when, else}
+use Rattle.std.specs.Bool.{then_some}
+use Rattle.std.specs.Option.{option_or}
 use Rattle.protocol.specs.Log.{any}
 use Rattle.protocol.specs.Hall.{Process, Hall, find, Outcome, answered}
 use Rattle.protocol.specs.StepFunction.{step_of}
@@ -58,7 +59,7 @@ module _ {S : Type 0} (M : Meaning S) where
 
   -- a step's two tests, and what is said of the steps after it
   abbrev checked : ℕ → Bool → Bool → Option Refusal → Option Refusal
-  checked i absent fit rest = else (else (when absent (NoActivity i)) (when (not fit) (WrongKind i))) rest
+  checked i absent fit rest = option_or (option_or (then_some absent (NoActivity i)) (then_some (not fit) (WrongKind i))) rest
 
   step_fits : (i : ℕ) (s : Step) (absent fit : Bool) → leb M.activities s.activity.number ≡ absent → fits M s.kind s.activity.number ≡ fit → (rest : Option Refusal) → checked i absent fit rest ≡ None → Fits M s × (rest ≡ None)
   step_fits i s true fit e f rest g = absurd (no_some g)
@@ -80,7 +81,7 @@ module _ {S : Type 0} (M : Meaning S) where
       go more false false x y g = subst (Unfit M i (s ∷ ss)) (some_is g) (of_another_kind (leb-false M.activities s.activity.number x) (λ k. both_ways (fits M s.kind s.activity.number) y (fits_kind s.kind s.activity.number k)))
       go more false true x y g = further_on (record { exists = leb-false M.activities s.activity.number x; kind = kind_fits s.kind s.activity.number y }) (more g)
 
-  fit_checked : (i : ℕ) (s : Step) (rest : Option Refusal) → Fits M s → else (fault M i s) rest ≡ rest
+  fit_checked : (i : ℕ) (s : Step) (rest : Option Refusal) → Fits M s → option_or (fault M i s) rest ≡ rest
   fit_checked i s rest f = λ j. checked i (lt-leb M.activities s.activity.number f.exists j) (fits_kind s.kind s.activity.number f.kind j) rest
 
   no_faults : (i : ℕ) (ss : List Step) → AllByRecursion (Fits M) ss → faults M i ss ≡ None
@@ -104,7 +105,7 @@ module _ {S : Type 0} (M : Meaning S) where
       runs_there q = eqb q.place k
 
       abbrev load_by : Bool → Bool → Option Refusal → Outcome S
-      load_by far busy unfit = refused_or h (else (when far NoPlace) (else (when busy Busy) unfit)) (loaded h k b)
+      load_by far busy unfit = refused_or h (option_or (then_some far NoPlace) (option_or (then_some busy Busy) unfit)) (loaded h k b)
 
       unused : any runs_there h.processes ≡ false → Unused M h k
       unused e q i at = both_ways (runs_there q) (any_none runs_there h.processes e q i) (eq-eqb q.place k at)
@@ -131,7 +132,7 @@ module _ {S : Type 0} (M : Meaning S) where
 
       abbrev open_by : Bool → Bool → Bool → Bool → Bool → Outcome S
       open_by far there full last over =
-          refused_or h (else (when far NoPlace) (else (when (not there) NotLoaded) (else (when full Full) (else (when last NoNumber) (when over NoRoom))))) (opened h k)
+          refused_or h (option_or (then_some far NoPlace) (option_or (then_some (not there) NotLoaded) (option_or (then_some full Full) (option_or (then_some last NoNumber) (then_some over NoRoom))))) (opened h k)
 
       is_loaded : (o : Option Body) → is_some o ≡ true → (b : Body) × (o ≡ Some b)
       is_loaded None e = absurd (false≢true e)

@@ -10,7 +10,8 @@ use Rattle.protocol.specs.declared.answer.Turn.TheVariants as turns
 use Rattle.protocol.specs.declared.scan.Request.{Request}
 use Rattle.protocol.specs.declared.standing.Standing.{Standing}
 use Rattle.protocol.specs.declared.standing.Standing.TheVariants.{Running, Withdrawing, PastPivot}
-use Rattle.protocol.specs.Options.{when, else}
+use Rattle.std.specs.Bool.{then_some}
+use Rattle.std.specs.Option.{option_or}
 use Rattle.protocol.specs.Means.{Laws}
 use Rattle.protocol.specs.Hall.{Process, Hall, find}
 use Rattle.protocol.specs.StepFunction.{step_of}
@@ -99,7 +100,7 @@ same_call r (Err f) = refl
 
 -- a known kind is an opening, a step or a cancelling
 abbrev by_kind : ℕ → Bool → Bool → Bool → Option Call
-by_kind n o s x = else (when o (opening n)) (else (when s (stepping n)) (when x (cancelling n)))
+by_kind n o s x = option_or (then_some o (opening n)) (option_or (then_some s (stepping n)) (then_some x (cancelling n)))
 
 module _ {S : Type 0} (M : Meaning S) where
   opens_scan : (h : Hall S) (k : ℕ) (o : Option Refusal) → ScanCall (opening k) (refused_or h o (opened h k)).answer

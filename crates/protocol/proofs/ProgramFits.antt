@@ -2,7 +2,8 @@
 use Rattle.std.proofs.Common.{◌≡◌, ℕ, zero, suc, Bool, true, false, eqb, ltb, List, [], ◌∷◌, ◌++◌, Some, None, Option, sym, refl}
 use Rattle.std.specs.List.{AllByRecursion}
 use Rattle.std.proofs.lemmas.Bool.{true≢false, false≢true, not-false}
-use Rattle.protocol.specs.Options.{when, else}
+use Rattle.std.specs.Bool.{then_some}
+use Rattle.std.specs.Option.{option_or}
 use Rattle.activity.specs.declared.Activity.{Activity}
 use Rattle.protocol.specs.declared.standing.Aim.{Aim}
 use Rattle.protocol.specs.declared.standing.Standing.{Standing}
@@ -82,11 +83,11 @@ module _ {S : Type 0} (M : Meaning S) where
   withdrawing_rowless aim (inner c k r) f = elim f [ ]
 
   -- a program without faults fits
-  else_none : {X : Type 0} (a b : Option X) → else a b ≡ None → (a ≡ None) × (b ≡ None)
+  else_none : {X : Type 0} (a b : Option X) → option_or a b ≡ None → (a ≡ None) × (b ≡ None)
   else_none None b e = (refl, e)
   else_none (Some x) b e = absurd (none_some (sym e))
 
-  when_none : {X : Type 0} (b : Bool) (x : X) → when b x ≡ None → b ≡ false
+  when_none : {X : Type 0} (b : Bool) (x : X) → then_some b x ≡ None → b ≡ false
   when_none true x e = absurd (none_some (sym e))
   when_none false x e = refl
 
@@ -119,4 +120,4 @@ module _ {S : Type 0} (M : Meaning S) where
     choices_fit (or_else b c) f = (body_fits b (split (body_steps b) (choices_steps c) f).0, choices_fit c (split (body_steps b) (choices_steps c) f).1)
 
   pub load_fits : (h : Hall S) (k : ℕ) (p : Body) → against_load M h k p ≡ None → FitsBody M p
-  load_fits h k p e = body_fits p (faultless 0 (body_steps p) (else_none (when (any (λ q. eqb q.place k) h.processes) Busy) (faults M 0 (body_steps p)) (else_none (when (ltb 7 k) NoPlace) (else (when (any (λ q. eqb q.place k) h.processes) Busy) (faults M 0 (body_steps p))) e).1).1)
+  load_fits h k p e = body_fits p (faultless 0 (body_steps p) (else_none (then_some (any (λ q. eqb q.place k) h.processes) Busy) (faults M 0 (body_steps p)) (else_none (then_some (ltb 7 k) NoPlace) (option_or (then_some (any (λ q. eqb q.place k) h.processes) Busy) (faults M 0 (body_steps p))) e).1).1)

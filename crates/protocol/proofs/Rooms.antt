@@ -3,7 +3,8 @@ use Rattle.std.proofs.Common.{◌≡◌, ℕ, zero, suc, ◌+◌, ◌*◌, ◌�
 use Rattle.std.specs.List.{AllByRecursion}
 use Rattle.std.proofs.ByRecursion.{All-set}
 use Rattle.std.proofs.lemmas.Bool.{eqb-true, eq-eqb, ne_eqb, ltb-false, cases_eq}
-use Rattle.protocol.specs.Options.{when, else}
+use Rattle.std.specs.Bool.{then_some}
+use Rattle.std.specs.Option.{option_or}
 use Rattle.activity.specs.declared.Activity.{Activity}
 use Rattle.protocol.specs.declared.record.Record.{Record}
 use Rattle.protocol.specs.declared.answer.Refusal.TheVariants.{NoPlace, NotLoaded, Full, NoNumber, NoRoom}
@@ -154,11 +155,11 @@ module _ {S : Type 0} where
             (omega (arith, parts xs, parts (map (committed_under p.start (suc h.committed)) xs), length-map (committed_under p.start (suc h.committed)) xs, to)) room
 
 -- else: the last objection
-last_none : {X : Type 0} (a b : Option X) → else a b ≡ None → b ≡ None
+last_none : {X : Type 0} (a b : Option X) → option_or a b ≡ None → b ≡ None
 last_none None b e = e
 last_none (Some x) b e = absurd (none_some (sym e))
 
-when_none : {X : Type 0} (b : Bool) (x : X) → when b x ≡ None → b ≡ false
+when_none : {X : Type 0} (b : Bool) (x : X) → then_some b x ≡ None → b ≡ false
 when_none true x e = absurd (none_some (sym e))
 when_none false x e = refl
 
@@ -192,10 +193,10 @@ module _ {S : Type 0} (M : Meaning S) where
     where
       full : (k : ℕ) → against_open h k ≡ None → length (committed_records h.log) + 32 * (length h.processes + 1) ≤ 1024
       full k e = ltb-false 1024 _ (when_none _ NoRoom
-          (last_none (when (leb 65535 h.given) NoNumber) (when (ltb 1024 (length (committed_records h.log) + 32 * (length h.processes + 1))) NoRoom)
-          (last_none (when (leb 16 (length h.processes)) Full) (else (when (leb 65535 h.given) NoNumber) (when (ltb 1024 (length (committed_records h.log) + 32 * (length h.processes + 1))) NoRoom))
-          (last_none (when (not (is_some (get_or h.programs k None))) NotLoaded) (else (when (leb 16 (length h.processes)) Full) (else (when (leb 65535 h.given) NoNumber) (when (ltb 1024 (length (committed_records h.log) + 32 * (length h.processes + 1))) NoRoom)))
-          (last_none (when (ltb 7 k) NoPlace) (else (when (not (is_some (get_or h.programs k None))) NotLoaded) (else (when (leb 16 (length h.processes)) Full) (else (when (leb 65535 h.given) NoNumber) (when (ltb 1024 (length (committed_records h.log) + 32 * (length h.processes + 1))) NoRoom)))) e)))))
+          (last_none (then_some (leb 65535 h.given) NoNumber) (then_some (ltb 1024 (length (committed_records h.log) + 32 * (length h.processes + 1))) NoRoom)
+          (last_none (then_some (leb 16 (length h.processes)) Full) (option_or (then_some (leb 65535 h.given) NoNumber) (then_some (ltb 1024 (length (committed_records h.log) + 32 * (length h.processes + 1))) NoRoom))
+          (last_none (then_some (not (is_some (get_or h.programs k None))) NotLoaded) (option_or (then_some (leb 16 (length h.processes)) Full) (option_or (then_some (leb 65535 h.given) NoNumber) (then_some (ltb 1024 (length (committed_records h.log) + 32 * (length h.processes + 1))) NoRoom)))
+          (last_none (then_some (ltb 7 k) NoPlace) (option_or (then_some (not (is_some (get_or h.programs k None))) NotLoaded) (option_or (then_some (leb 16 (length h.processes)) Full) (option_or (then_some (leb 65535 h.given) NoNumber) (then_some (ltb 1024 (length (committed_records h.log) + 32 * (length h.processes + 1))) NoRoom)))) e)))))
 
 module _ {S : Type 0} (M : Meaning S) (laws : Laws M) (s : S) where
   rooms_outcome : (h : Hall S) → Sound M s h → Rooms h → (c : Call) → Rooms (outcome M h c).hall

@@ -12,7 +12,8 @@ use Rattle.protocol.specs.Ahead.{Next, nothing, plain, crossing, next}
 use Rattle.protocol.specs.Log.{owned, dropped, last_of, committed_under}
 use Rattle.protocol.specs.Hall.{beginning}
 use Rattle.protocol.specs.declared.scan.Request.{Request}
-use Rattle.protocol.specs.Options.{when, else}
+use Rattle.std.specs.Bool.{then_some}
+use Rattle.std.specs.Option.{option_or}
 use Rattle.protocol.specs.Call.{Call, loading, installing, opening, stepping, cancelling}
 use Rattle.protocol.specs.Letters.{call_of}
 
@@ -97,13 +98,13 @@ noted b (cancelling n) a = b
 -- what the letter and the number of a scan record say; all else says nothing that the book notes
 abbrev pub answer_told : ℕ → ℕ → Option Answer
 answer_told l n =
-    else (when (l == 68) (Ok (Stepped (turns.Done n))))
-    (else (when (l == 85) (Ok (Stepped (turns.Undone n))))
-    (else (when (l == 65) (Ok (Stepped turns.Restarted)))
-    (else (when (l == 78) (Ok (Stepped (turns.Next n))))
-    (else (when (l == 71) (Ok (Stepped turns.Gone)))
-    (else (when (l == 75) (Ok (Stepped (turns.Committed n))))
-    (when (l == 79) (Ok (Opened n))))))))
+    option_or (then_some (l == 68) (Ok (Stepped (turns.Done n))))
+    (option_or (then_some (l == 85) (Ok (Stepped (turns.Undone n))))
+    (option_or (then_some (l == 65) (Ok (Stepped turns.Restarted)))
+    (option_or (then_some (l == 78) (Ok (Stepped (turns.Next n))))
+    (option_or (then_some (l == 71) (Ok (Stepped turns.Gone)))
+    (option_or (then_some (l == 75) (Ok (Stepped (turns.Committed n))))
+    (then_some (l == 79) (Ok (Opened n))))))))
 
 abbrev pub noted_if : Book → Option Call → Option Answer → Book
 noted_if b None a = b

@@ -1,6 +1,7 @@
 -- What each call comes to, as a function. What the rules say is the relation in Comes.antt; that the two agree is proved.
 use Rattle.std.specs.Prelude.{ℕ, suc, ◌+◌, ◌*◌, Bool, cond, not, List, [], ◌∷◌, ◌++◌, length, is_some, Some, None, Option, nat_eq, nat_le, nat_lt, slice_index_or, Ok, Err}
-use Rattle.protocol.specs.Options.{when, else}
+use Rattle.std.specs.Bool.{then_some}
+use Rattle.std.specs.Option.{option_or}
 use Rattle.protocol.specs.declared.scan.Request.{Request}
 use Rattle.protocol.specs.declared.standing.Standing.{Standing}
 use Rattle.protocol.specs.declared.standing.Aim.TheVariants.{End}
@@ -26,11 +27,11 @@ fits M Pivot a = not (M.compensatable a)
 fits M Retriable a = M.retriable a
 
 abbrev pub fault : {S : Type 0} → Meaning S → ℕ → Step → Option Refusal
-fault M i s = else (when (nat_le M.activities s.activity.number) (NoActivity i)) (when (not (fits M s.kind s.activity.number)) (WrongKind i))
+fault M i s = option_or (then_some (nat_le M.activities s.activity.number) (NoActivity i)) (then_some (not (fits M s.kind s.activity.number)) (WrongKind i))
 
 abbrev pub faults : {S : Type 0} → Meaning S → ℕ → List Step → Option Refusal
 faults M i [] = None
-faults M i (s ∷ ss) = else (fault M i s) (faults M (suc i) ss)
+faults M i (s ∷ ss) = option_or (fault M i s) (faults M (suc i) ss)
 
 module _ {S : Type 0} where
   abbrev pub refused_or : Hall S → Option Refusal → Outcome S → Outcome S
@@ -38,18 +39,18 @@ module _ {S : Type 0} where
   refused_or h (Some r) on = answered h (Err r)
 
   abbrev pub against_load : Meaning S → Hall S → ℕ → Body → Option Refusal
-  against_load M h k b = else (when (nat_lt 7 k) NoPlace) (else (when (any (λ q. nat_eq q.place k) h.processes) Busy) (faults M 0 (body_steps b)))
+  against_load M h k b = option_or (then_some (nat_lt 7 k) NoPlace) (option_or (then_some (any (λ q. nat_eq q.place k) h.processes) Busy) (faults M 0 (body_steps b)))
 
   abbrev pub loaded : Hall S → ℕ → Body → Outcome S
   loaded h k b = answered (with_program h k b) (Ok Loaded)
 
   abbrev pub against_open : Hall S → ℕ → Option Refusal
   against_open h k =
-      else (when (nat_lt 7 k) NoPlace)
-      (else (when (not (is_some (slice_index_or h.programs k None))) NotLoaded)
-      (else (when (nat_le 16 (length h.processes)) Full)
-      (else (when (nat_le 65535 h.given) NoNumber)
-      (when (nat_lt 1024 (length (committed_records h.log) + 32 * (length h.processes + 1))) NoRoom))))
+      option_or (then_some (nat_lt 7 k) NoPlace)
+      (option_or (then_some (not (is_some (slice_index_or h.programs k None))) NotLoaded)
+      (option_or (then_some (nat_le 16 (length h.processes)) Full)
+      (option_or (then_some (nat_le 65535 h.given) NoNumber)
+      (then_some (nat_lt 1024 (length (committed_records h.log) + 32 * (length h.processes + 1))) NoRoom))))
 
   abbrev pub opened : Hall S → ℕ → Outcome S
   opened h k = answered (with_process h k) (Ok (Opened (suc h.given)))

@@ -10,12 +10,13 @@ use Rattle.protocol.specs.declared.answer.Refusal.TheVariants.{BadText, NoPlace,
 use Rattle.protocol.specs.declared.answer.Turn.{Turn}
 use Rattle.protocol.specs.declared.answer.Turn.TheVariants as turns
 use Rattle.protocol.specs.declared.scan.Request.{Request}
-use Rattle.protocol.specs.Options.{when, else}
+use Rattle.std.specs.Bool.{then_some}
+use Rattle.std.specs.Option.{option_or}
 use Rattle.protocol.specs.Call.{Call, opening, stepping, cancelling}
 
 -- the call that a scan record is, by its kind: O, S or X
 abbrev pub call_of : Request → Option Call
-call_of r = else (when (r.kind == 79) (opening r.operand)) (else (when (r.kind == 83) (stepping r.operand)) (when (r.kind == 88) (cancelling r.operand)))
+call_of r = option_or (then_some (r.kind == 79) (opening r.operand)) (option_or (then_some (r.kind == 83) (stepping r.operand)) (then_some (r.kind == 88) (cancelling r.operand)))
 
 -- the number of a refusal
 abbrev pub code : Refusal → ℕ

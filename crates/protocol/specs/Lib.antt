@@ -1,4 +1,3 @@
-pub mod Options
 pub mod Means
 pub mod Ahead
 pub mod Log

@@ -8,6 +8,7 @@ pub struct Record {
     pub start: u16,
     pub activity: Activity,
     pub answer: u32,
+    // stays a number with 0 for none: the rules give a record this form
     pub commit: u32,
     pub pivot: bool,
 }
