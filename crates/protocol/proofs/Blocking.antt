@@ -1,5 +1,6 @@
 -- The tests of the rules, and what they tell.
 use Rattle.std.proofs.Common.{◌≡◌, ℕ, ◌<◌, ◌≤◌, Bool, true, false, cond, not, ◌&&◌, ◌||◌, eqb, ltb, ◌⊎◌, List, [], ◌∷◌, map, Some, None, Option, sym, refl, ap, ◌∙◌, subst, inl, inr, ⊎_elim, arith}
+use Rattle.std.specs.List.{AllZip}
 use Rattle.std.proofs.lemmas.Bool.{eqb-true, eqb-false, eq-eqb, ne_eqb, true≢false, false≢true, both_ways, ltb-true, lt-ltb, or_left, or_right, or_cases, and_parts, and_from, cases_Bool}
 use Rattle.activity.specs.declared.Activity.{Activity}
 use Rattle.protocol.specs.declared.record.Record.{Record}
@@ -11,7 +12,7 @@ use Rattle.station.specs.Meaning.{Meaning}
 use Rattle.protocol.specs.Log.{any, owned, own, Split, from_pivot}
 use Rattle.protocol.specs.Hall.{Process, Hall, least, lower, stand, past_pivot, going_back, retreating, running}
 use Rattle.protocol.specs.StepFunction.{holds_conflict, stands_before_conflict, other, blocks_back, blocks_plain, blocks_pivot, blocks_alone, blocks_commit, everybody, nobody, pivot_marks, marked}
-use Rattle.protocol.specs.Relation.{In, Before, Each, Retreats, Past, InConflict, BlocksBack, BlocksPlain, BlocksPivot, BlocksCommit, Nobody, Smallest, Marks}
+use Rattle.protocol.specs.Relation.{In, Before, Retreats, Past, InConflict, BlocksBack, BlocksPlain, BlocksPivot, BlocksCommit, Nobody, Smallest, Marks}
 use Rattle.protocol.proofs.Members.{some_any}
 
 -- the test is true just where A holds
@@ -187,7 +188,7 @@ module _ {S : Type 0} (M : Meaning S) where
           go true e false f = inr ((λ o b r. both_ways (running q.standing) f ((runs q.standing).passes r)), refl)
           go false e c f = inr ((λ o b r. both_ways (t q) e ((tells q).passes (o, b))), refl)
 
-      pub marked_from : (ps : List Process) → Each (Marks p B) ps (map (marked t) ps)
+      pub marked_from : (ps : List Process) → AllZip (Marks p B) ps (map (marked t) ps)
       marked_from [] = tt
       marked_from (q ∷ qs) = (marks_from q, marked_from qs)
 
@@ -200,7 +201,7 @@ module _ {S : Type 0} (M : Meaning S) where
           go true x false y = refl
           go false x c y = refl
 
-      pub marked_to : (ps rs : List Process) → Each (Marks p B) ps rs → rs ≡ map (marked t) ps
+      pub marked_to : (ps rs : List Process) → AllZip (Marks p B) ps rs → rs ≡ map (marked t) ps
       marked_to [] [] e = refl
       marked_to [] (r ∷ rs) e = absurd e
       marked_to (q ∷ qs) [] e = absurd e

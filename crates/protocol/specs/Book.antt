@@ -1,5 +1,5 @@
 -- The book: what a hall has kept, as far as callers can tell. It is fed with calls and their answers, and with nothing else.
-use Rattle.std.specs.Prelude.{ℕ, Bool, true, false, cond, not, List, [], ◌∷◌, ◌++◌, map, replicate, Some, None, filter, Option, ◌==◌, slice_set, Ok, Err}
+use Rattle.std.specs.Prelude.{ℕ, Bool, true, false, cond, not, List, [], ◌∷◌, ◌++◌, map, replicate, Some, None, filter, Option, ◌==◌, slice_set, Ok, Err, find}
 use Rattle.activity.specs.declared.Activity.{Activity}
 use Rattle.protocol.specs.declared.record.Record.{Record}
 use Rattle.protocol.specs.declared.answer.Turn.{Turn}
@@ -32,8 +32,7 @@ abbrev pub empty : Book
 empty = record { programs = replicate 8 None; entries = []; kept = [] }
 
 abbrev pub seek : ℕ → List Entry → Option Entry
-seek n [] = None
-seek n (e ∷ es) = cond (e.start == n) (Some e) (seek n es)
+seek n es = find (λ e. e.start == n) es
 
 abbrev pub struck : ℕ → List Entry → List Entry
 struck n es = filter (λ e. not (e.start == n)) es
