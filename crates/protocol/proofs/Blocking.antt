@@ -1,6 +1,6 @@
 -- The tests of the rules, and what they tell.
 use Rattle.std.proofs.Common.{◌≡◌, ℕ, ◌<◌, ◌≤◌, Bool, true, false, cond, not, ◌&&◌, ◌||◌, eqb, ltb, ◌⊎◌, List, [], ◌∷◌, map, Some, None, Option, sym, refl, ap, ◌∙◌, subst, inl, inr, ⊎_elim, arith}
-use Rattle.std.specs.List.{AllZip}
+use Rattle.std.specs.List.{AllZip, list_any}
 use Rattle.std.proofs.lemmas.Bool.{eqb-true, eqb-false, eq-eqb, ne_eqb, true≢false, false≢true, both_ways, ltb-true, lt-ltb, or_left, or_right, or_cases, and_parts, and_from, cases_Bool}
 use Rattle.activity.specs.declared.Activity.{Activity}
 use Rattle.protocol.specs.declared.record.Record.{Record}
@@ -9,7 +9,7 @@ use Rattle.protocol.specs.declared.standing.Aim.TheVariants.{Restart}
 use Rattle.protocol.specs.declared.standing.Direction.TheVariants.{Forward, Back}
 use Rattle.protocol.specs.declared.standing.Standing.TheVariants.{Running, Withdrawing, PastPivot}
 use Rattle.station.specs.Meaning.{Meaning}
-use Rattle.protocol.specs.Log.{any, owned, own, Split, from_pivot}
+use Rattle.protocol.specs.Log.{owned, own, Split, from_pivot}
 use Rattle.protocol.specs.Hall.{Process, Hall, least, lower, stand, past_pivot, going_back, retreating, running}
 use Rattle.protocol.specs.StepFunction.{holds_conflict, stands_before_conflict, other, blocks_back, blocks_plain, blocks_pivot, blocks_alone, blocks_commit, everybody, nobody, pivot_marks, marked}
 use Rattle.protocol.specs.Relation.{In, Before, Retreats, Past, InConflict, BlocksBack, BlocksPlain, BlocksPivot, BlocksCommit, Nobody, Smallest, Marks}
@@ -47,12 +47,12 @@ pub less : (a b : ℕ) → Tells (ltb a b) (a < b)
 less a b = record { holds = ltb-true a b; passes = lt-ltb a b }
 
 -- some element passes
-pub some : {X : Type 0} (t : X → Bool) (A : X → Type 0) → ((x : X) → Tells (t x) (A x)) → (xs : List X) → Tells (any t xs) ((x : X) × In x xs × A x)
+pub some : {X : Type 0} (t : X → Bool) (A : X → Type 0) → ((x : X) → Tells (t x) (A x)) → (xs : List X) → Tells (list_any t xs) ((x : X) × In x xs × A x)
 some {X} t A tells xs = record { holds = holds xs; passes = λ (x, i, a). some_any t xs x i ((tells x).passes a) }
   where
-    holds : (xs : List X) → any t xs ≡ true → (x : X) × In x xs × A x
+    holds : (xs : List X) → list_any t xs ≡ true → (x : X) × In x xs × A x
     holds [] e = absurd (false≢true e)
-    holds (x ∷ xs) e = ⊎_elim (λ p. (x, inl refl, (tells x).holds p)) (λ q. let (y, i, a) = holds xs q in (y, inr i, a)) (or_cases (t x) (any t xs) e)
+    holds (x ∷ xs) e = ⊎_elim (λ p. (x, inl refl, (tells x).holds p)) (λ q. let (y, i, a) = holds xs q in (y, inr i, a)) (or_cases (t x) (list_any t xs) e)
 
 -- the same with other words for it
 pub same_as : {b : Bool} {A B : Type 0} → Tells b A → (A → B) → (B → A) → Tells b B

@@ -1,6 +1,6 @@
 -- Each call comes to exactly one thing: what the function gives is what the relation allows.
 use Rattle.std.proofs.Common.{◌≡◌, ℕ, suc, Bool, true, false, cond, not, eqb, ltb, leb, List, [], ◌∷◌, length, get_or, is_some, Some, None, Option, sym, refl, ap, ◌∙◌, subst, inl, inr, arith}
-use Rattle.std.specs.List.{AllByRecursion}
+use Rattle.std.specs.List.{AllByRecursion, list_any}
 use Rattle.std.proofs.lemmas.Bool.{false≢true, both_ways, not-true, not_from_false, ltb-true, ltb-false, leb-true, leb-false, lt-ltb, le-ltb, le-leb, lt-leb, eqb-true, eq-eqb, or_cases}
 use Rattle.station.specs.Meaning.{Meaning}
 use Rattle.program.specs.declared.command.Kind.{Kind}
@@ -15,7 +15,6 @@ use Rattle.protocol.specs.declared.standing.Standing.{Standing}
 use Rattle.protocol.specs.declared.standing.Standing.TheVariants.{Running, Withdrawing, PastPivot}
 use Rattle.std.specs.Bool.{then_some}
 use Rattle.std.specs.Option.{option_or}
-use Rattle.protocol.specs.Log.{any}
 use Rattle.protocol.specs.Hall.{Process, Hall, find, Outcome, answered}
 use Rattle.protocol.specs.StepFunction.{step_of}
 use Rattle.protocol.specs.Relation.{In}
@@ -27,10 +26,10 @@ use Rattle.protocol.specs.Exact.{CallsExactly, ScansExactly}
 use Rattle.protocol.proofs.Members.{some_any, any_none}
 use Rattle.protocol.proofs.StepsExact.{exact}
 
-in_any : {X : Type 0} (p : X → Bool) (xs : List X) → any p xs ≡ true → (x : X) × In x xs × (p x ≡ true)
+in_any : {X : Type 0} (p : X → Bool) (xs : List X) → list_any p xs ≡ true → (x : X) × In x xs × (p x ≡ true)
 in_any p [] e = absurd (false≢true e)
 in_any p (x ∷ xs) e =
-    elim (or_cases (p x) (any p xs) e) [
+    elim (or_cases (p x) (list_any p xs) e) [
       | inl t ↦ (x, inl refl, t)
       | inr more ↦ let (y, i, t) = in_any p xs more in (y, inr i, t)
     ]
@@ -107,20 +106,20 @@ module _ {S : Type 0} (M : Meaning S) where
       abbrev load_by : Bool → Bool → Option Refusal → Outcome S
       load_by far busy unfit = refused_or h (option_or (then_some far NoPlace) (option_or (then_some busy Busy) unfit)) (loaded h k b)
 
-      unused : any runs_there h.processes ≡ false → Unused M h k
+      unused : list_any runs_there h.processes ≡ false → Unused M h k
       unused e q i at = both_ways (runs_there q) (any_none runs_there h.processes e q i) (eq-eqb q.place k at)
 
-      used_not : Unused M h k → any runs_there h.processes ≡ false
-      used_not u = not_true_false (any runs_there h.processes) (λ e. let (q, i, t) = in_any runs_there h.processes e in u q i (eqb-true q.place k t))
+      used_not : Unused M h k → list_any runs_there h.processes ≡ false
+      used_not u = not_true_false (list_any runs_there h.processes) (λ e. let (q, i, t) = in_any runs_there h.processes e in u q i (eqb-true q.place k t))
 
-      load_allowed : (far busy : Bool) (unfit : Option Refusal) → ltb 7 k ≡ far → any runs_there h.processes ≡ busy → faults M 0 (body_steps b) ≡ unfit → Allowed (loading k b w) (load_by far busy unfit)
+      load_allowed : (far busy : Bool) (unfit : Option Refusal) → ltb 7 k ≡ far → list_any runs_there h.processes ≡ busy → faults M 0 (body_steps b) ≡ unfit → Allowed (loading k b w) (load_by far busy unfit)
       load_allowed true busy unfit e f g = load_nowhere (ltb-true 7 k e)
       load_allowed false true unfit e f g = let (q, i, t) = in_any runs_there h.processes f in load_busy q (ltb-false 7 k e) i (eqb-true q.place k t)
       load_allowed false false (Some r) e f g = load_unfit (ltb-false 7 k e) (unused f) (first_unfit 0 (body_steps b) r g)
       load_allowed false false None e f g = loads (ltb-false 7 k e) (unused f) (all_fit 0 (body_steps b) g)
 
-      load_only : (g : Hall S) (a : Answer) → Comes M h (loading k b w) g a → answered g a ≡ load_by (ltb 7 k) (any runs_there h.processes) (faults M 0 (body_steps b))
-      load_only g a (load_nowhere far) = λ j. load_by (sym (lt-ltb 7 k far) j) (any runs_there h.processes) (faults M 0 (body_steps b))
+      load_only : (g : Hall S) (a : Answer) → Comes M h (loading k b w) g a → answered g a ≡ load_by (ltb 7 k) (list_any runs_there h.processes) (faults M 0 (body_steps b))
+      load_only g a (load_nowhere far) = λ j. load_by (sym (lt-ltb 7 k far) j) (list_any runs_there h.processes) (faults M 0 (body_steps b))
       load_only g a (load_busy q near i at) = λ j. load_by (sym (le-ltb 7 k near) j) (sym (some_any runs_there h.processes q i (eq-eqb q.place k at)) j) (faults M 0 (body_steps b))
       load_only g a (load_unfit {r = r} near u f) = λ j. load_by (sym (le-ltb 7 k near) j) (sym (used_not u) j) (sym (faulted 0 (body_steps b) r f) j)
       load_only g a (loads near u f) = λ j. load_by (sym (le-ltb 7 k near) j) (sym (used_not u) j) (sym (no_faults 0 (body_steps b) f) j)
@@ -195,8 +194,8 @@ module _ {S : Type 0} (M : Meaning S) where
       cancel_only g a (cancels {p = p} e f) = ap (cancel_by h p) (sym f) ∙ ap (cancel_of h) (sym e)
 
     allowed : (c : Call) → Allowed c (outcome M h c)
-    allowed (loading k b w) = load_allowed k b w (ltb 7 k) (any (runs_there k b w) h.processes) (faults M 0 (body_steps b)) refl refl refl
-    allowed (installing k t b None w) = installs (load_allowed k b (t, w) (ltb 7 k) (any (runs_there k b (t, w)) h.processes) (faults M 0 (body_steps b)) refl refl refl)
+    allowed (loading k b w) = load_allowed k b w (ltb 7 k) (list_any (runs_there k b w) h.processes) (faults M 0 (body_steps b)) refl refl refl
+    allowed (installing k t b None w) = installs (load_allowed k b (t, w) (ltb 7 k) (list_any (runs_there k b (t, w)) h.processes) (faults M 0 (body_steps b)) refl refl refl)
     allowed (installing k t b (Some e) w) = install_no_program
     allowed (opening k) = open_allowed k (ltb 7 k) (is_some (at_place k)) (full_now k) (last_now k) (over_now k) refl refl refl refl refl
     allowed (stepping n) = step_allowed n (find n h.processes) refl

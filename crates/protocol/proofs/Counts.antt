@@ -1,12 +1,13 @@
 -- How many records there are.
 use Rattle.std.proofs.Common.{◌≡◌, ℕ, zero, suc, ◌+◌, ◌*◌, ◌≤◌, Bool, true, false, cond, not, ◌||◌, eqb, List, [], ◌∷◌, ◌++◌, map, length, Some, None, filter, Option, sym, refl, ap, ◌∙◌, subst, inl, inr, arith, length-append}
+use Rattle.std.specs.List.{list_any}
 use Rattle.std.proofs.lemmas.Bool.{eqb-true, eqb-false, eq-eqb, ne_eqb, true≢false, false≢true, or_parts, cases_Bool}
 use Rattle.activity.specs.declared.Activity.{Activity}
 use Rattle.protocol.specs.declared.record.Record.{Record}
 use Rattle.program.specs.Grammar.{finish, compensatable, pivot, Choices, row, or_else, body_steps, choices_steps, row_steps}
 use Rattle.program.specs.Positions.{in_body, in_row, Position, outer, inner, alternative}
 use Rattle.protocol.specs.Ahead.{Next, nothing, plain, crossing, next}
-use Rattle.protocol.specs.Log.{any, Split, owned, own, removed, last_of, unless_pivot, returnable, to_pivot, from_pivot, committed_under, committed_records}
+use Rattle.protocol.specs.Log.{Split, owned, own, removed, last_of, unless_pivot, returnable, to_pivot, from_pivot, committed_under, committed_records}
 use Rattle.protocol.specs.Hall.{Process, find, without}
 pub use Rattle.protocol.specs.Held.{size, choice_size, rest_size, Roomy}
 use Rattle.protocol.proofs.Members.{In}
@@ -24,32 +25,32 @@ length_push (y ∷ ys) x = ap suc (length_push ys x)
 
 -- up to the last pivot, and after it
 
-to_none : (xs : List Record) → any (λ x. x.pivot) xs ≡ false → to_pivot xs ≡ []
+to_none : (xs : List Record) → list_any (λ x. x.pivot) xs ≡ false → to_pivot xs ≡ []
 to_none [] e = refl
 to_none (x ∷ xs) e = ap (λ b. cond b (x ∷ to_pivot xs) []) e
 
 pub parts : (xs : List Record) → length (to_pivot xs) + length (from_pivot xs) ≡ length xs
 parts [] = refl
-parts (x ∷ xs) = go x.pivot (any (λ r. r.pivot) xs) refl (parts xs)
+parts (x ∷ xs) = go x.pivot (list_any (λ r. r.pivot) xs) refl (parts xs)
   where
-    go : (b c : Bool) → any (λ r. r.pivot) xs ≡ c → length (to_pivot xs) + length (from_pivot xs) ≡ length xs → length (cond (b || c) (x ∷ to_pivot xs) []) + length (cond c (from_pivot xs) (cond b xs (x ∷ xs))) ≡ suc (length xs)
+    go : (b c : Bool) → list_any (λ r. r.pivot) xs ≡ c → length (to_pivot xs) + length (from_pivot xs) ≡ length xs → length (cond (b || c) (x ∷ to_pivot xs) []) + length (cond c (from_pivot xs) (cond b xs (x ∷ xs))) ≡ suc (length xs)
     go true true e h = omega arith
     go false true e h = omega arith
     go true false e h = omega (arith, ap length (to_none xs e))
     go false false e h = omega arith
 
 -- a pivot at the end
-any_last : (xs : List Record) (r : Record) → r.pivot ≡ true → any (λ x. x.pivot) (xs ++ r ∷ []) ≡ true
+any_last : (xs : List Record) (r : Record) → r.pivot ≡ true → list_any (λ x. x.pivot) (xs ++ r ∷ []) ≡ true
 any_last [] r e = ap (λ b. b || false) e
 any_last (x ∷ xs) r e = go x.pivot (any_last xs r e)
   where
-    go : (b : Bool) → any (λ x. x.pivot) (xs ++ r ∷ []) ≡ true → (b || any (λ x. x.pivot) (xs ++ r ∷ [])) ≡ true
+    go : (b : Bool) → list_any (λ x. x.pivot) (xs ++ r ∷ []) ≡ true → (b || list_any (λ x. x.pivot) (xs ++ r ∷ [])) ≡ true
     go true h = refl
     go false h = h
 
 pub to_last : (xs : List Record) (r : Record) → r.pivot ≡ true → to_pivot (xs ++ r ∷ []) ≡ xs ++ r ∷ []
 to_last [] r e = ap (λ b. cond (b || false) (r ∷ []) []) e
-to_last (x ∷ xs) r e = go x.pivot (any (λ y. y.pivot) (xs ++ r ∷ [])) (any_last xs r e) (to_last xs r e)
+to_last (x ∷ xs) r e = go x.pivot (list_any (λ y. y.pivot) (xs ++ r ∷ [])) (any_last xs r e) (to_last xs r e)
   where
     go : (b c : Bool) → c ≡ true → to_pivot (xs ++ r ∷ []) ≡ xs ++ r ∷ [] → cond (b || c) (x ∷ to_pivot (xs ++ r ∷ [])) [] ≡ x ∷ (xs ++ r ∷ [])
     go true c f h = ap (λ l. x ∷ l) h

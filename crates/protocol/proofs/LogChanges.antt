@@ -1,5 +1,6 @@
 -- A step done, a step taken back and a commit keep a hall sound.
 use Rattle.std.proofs.Common.{◌≡◌, ℕ, suc, ◌<◌, ◌≤◌, Bool, true, false, cond, ◌&&◌, ◌||◌, eqb, ◌⊎◌, List, [], ◌∷◌, ◌++◌, map, Some, sym, refl, ap, ◌∙◌, subst, inl, inr, ⊎_elim, arith}
+use Rattle.std.specs.List.{list_any}
 use mathlib.Core.Path.{fun_ext}
 use Rattle.std.proofs.lemmas.Bool.{true≢false, false≢true, eqb-true, eqb-false, eq-eqb, ne_eqb, and_from, and_cases, cases_eq, and_right, both_ways}
 use Rattle.serial.specs.Replay.{Replays}
@@ -12,7 +13,7 @@ use Rattle.protocol.specs.declared.standing.Standing.{Standing}
 use Rattle.station.specs.Meaning.{Meaning}
 use Rattle.protocol.specs.Means.{actions, Laws, Does, conflicting}
 use Rattle.program.specs.Positions.{Position}
-use Rattle.protocol.specs.Log.{any, owned, own, Split, rejoined, removed, pivoted, group, number, prior, committed_under, from_pivot}
+use Rattle.protocol.specs.Log.{owned, own, Split, rejoined, removed, pivoted, group, number, prior, committed_under, from_pivot}
 use Rattle.protocol.specs.Hall.{Process, Hall, find, changed, move, past_pivot, record_of, standing_after}
 use Rattle.protocol.specs.StepFunction.{holds_conflict, holds_any_conflict, stands_before_conflict, performed, undone, committing}
 use Rattle.protocol.proofs.Members.{In, Before, all_from, before_first, before_second, in_push, before_push, in_more, before_more, before_here, in_here, in_map, before_map, any_none, any_push, any_more, any_map, in_kept, any_kept}
@@ -28,11 +29,11 @@ untouched conflict n a log e r i same =
 
 pub not_before : (conflict : ℕ → ℕ → Bool) (n m : ℕ) (log : List Record) → stands_before_conflict conflict n m log ≡ false → (a b : Record) → Before a b log → a.start ≡ n → b.start ≡ m → conflict a.activity.number b.activity.number ≡ false
 not_before conflict n m [] e a b i p q = elim i [ ]
-not_before conflict n m (r ∷ rs) e a b (inr i) p q = not_before conflict n m rs (Rattle.std.proofs.lemmas.Bool.or_parts (owned n r && any (λ x. owned m x && conflict r.activity.number x.activity.number) rs) (stands_before_conflict conflict n m rs) e).1 a b i p q
+not_before conflict n m (r ∷ rs) e a b (inr i) p q = not_before conflict n m rs (Rattle.std.proofs.lemmas.Bool.or_parts (owned n r && list_any (λ x. owned m x && conflict r.activity.number x.activity.number) rs) (stands_before_conflict conflict n m rs) e).1 a b i p q
 not_before conflict n m (r ∷ rs) e a b (inl (at, i)) p q =
-    let none = (Rattle.std.proofs.lemmas.Bool.or_parts (owned n r && any (λ x. owned m x && conflict r.activity.number x.activity.number) rs) (stands_before_conflict conflict n m rs) e).0 in
+    let none = (Rattle.std.proofs.lemmas.Bool.or_parts (owned n r && list_any (λ x. owned m x && conflict r.activity.number x.activity.number) rs) (stands_before_conflict conflict n m rs) e).0 in
     let mine : owned n r ≡ true = eq-eqb r.start n (ap (λ x. x.start) (sym at) ∙ p) in
-    let free : any (λ x. owned m x && conflict r.activity.number x.activity.number) rs ≡ false = ap (λ t. t && any (λ x. owned m x && conflict r.activity.number x.activity.number) rs) (sym mine) ∙ none in
+    let free : list_any (λ x. owned m x && conflict r.activity.number x.activity.number) rs ≡ false = ap (λ t. t && list_any (λ x. owned m x && conflict r.activity.number x.activity.number) rs) (sym mine) ∙ none in
     ap (λ x. conflict x.activity.number b.activity.number) at
     ∙ ap (λ t. t && conflict r.activity.number b.activity.number) (sym (eq-eqb b.start m q))
     ∙ any_none (λ x. owned m x && conflict r.activity.number x.activity.number) rs free b i

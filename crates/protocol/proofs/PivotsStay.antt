@@ -1,11 +1,12 @@
 -- What a process has kept up to its last pivot stays.
 use Rattle.std.proofs.Common.{◌≡◌, ℕ, suc, Bool, true, false, cond, ◌||◌, ◌⊎◌, List, [], ◌∷◌, ◌++◌, map, Some, None, filter, Option, sym, refl, ap, ◌∙◌, subst, inl, inr, append_assoc, append-nil}
+use Rattle.std.specs.List.{list_any}
 use Rattle.std.proofs.lemmas.Bool.{eq-eqb, ne_eqb, cases_eq, false≢true}
 use Rattle.activity.specs.declared.Activity.{Activity}
 use Rattle.protocol.specs.declared.record.Record.{Record}
 use Rattle.station.specs.Meaning.{Meaning}
 use Rattle.program.specs.Positions.{Position}
-use Rattle.protocol.specs.Log.{any, Split, owned, own, rejoined, removed, to_pivot, committed_under}
+use Rattle.protocol.specs.Log.{Split, owned, own, rejoined, removed, to_pivot, committed_under}
 use Rattle.protocol.specs.Hall.{Process, Hall}
 use Rattle.protocol.specs.StepFunction.{performed}
 use Rattle.protocol.specs.Call.{Call}
@@ -43,31 +44,31 @@ module _ {X : Type 0} where
 
 pub pivot_begins : (xs : List Record) → Begins (to_pivot xs) xs
 pivot_begins [] = begins_same []
-pivot_begins (x ∷ xs) = go (x.pivot || any (λ r. r.pivot) xs) (pivot_begins xs)
+pivot_begins (x ∷ xs) = go (x.pivot || list_any (λ r. r.pivot) xs) (pivot_begins xs)
   where
     go : (b : Bool) → Begins (to_pivot xs) xs → Begins (cond b (x ∷ to_pivot xs) []) (x ∷ xs)
     go true e = begins_cons x (to_pivot xs) xs e
     go false e = (x ∷ xs, refl)
 
-any_longer : (p : Record → Bool) (xs ys : List Record) → any p xs ≡ true → any p (xs ++ ys) ≡ true
+any_longer : (p : Record → Bool) (xs ys : List Record) → list_any p xs ≡ true → list_any p (xs ++ ys) ≡ true
 any_longer p [] ys e = absurd (false≢true e)
 any_longer p (x ∷ xs) ys e = go (p x) e (any_longer p xs ys)
   where
-    go : (b : Bool) → (b || any p xs) ≡ true → (any p xs ≡ true → any p (xs ++ ys) ≡ true) → (b || any p (xs ++ ys)) ≡ true
+    go : (b : Bool) → (b || list_any p xs) ≡ true → (list_any p xs ≡ true → list_any p (xs ++ ys) ≡ true) → (b || list_any p (xs ++ ys)) ≡ true
     go true f again = refl
     go false f again = again f
 
 pub pivot_longer : (xs ys : List Record) → Begins (to_pivot xs) (to_pivot (xs ++ ys))
 pivot_longer [] ys = (to_pivot ys, refl)
-pivot_longer (x ∷ xs) ys = go x.pivot (any (λ r. r.pivot) xs) refl (pivot_longer xs ys)
+pivot_longer (x ∷ xs) ys = go x.pivot (list_any (λ r. r.pivot) xs) refl (pivot_longer xs ys)
   where
-    go : (b c : Bool) → any (λ r. r.pivot) xs ≡ c → Begins (to_pivot xs) (to_pivot (xs ++ ys)) → Begins (cond (b || c) (x ∷ to_pivot xs) []) (cond (b || any (λ r. r.pivot) (xs ++ ys)) (x ∷ to_pivot (xs ++ ys)) [])
+    go : (b c : Bool) → list_any (λ r. r.pivot) xs ≡ c → Begins (to_pivot xs) (to_pivot (xs ++ ys)) → Begins (cond (b || c) (x ∷ to_pivot xs) []) (cond (b || list_any (λ r. r.pivot) (xs ++ ys)) (x ∷ to_pivot (xs ++ ys)) [])
     go true c e again = begins_cons x (to_pivot xs) (to_pivot (xs ++ ys)) again
     go false true e again = subst (λ d. Begins (x ∷ to_pivot xs) (cond d (x ∷ to_pivot (xs ++ ys)) [])) (sym (any_longer (λ r. r.pivot) xs ys e)) (begins_cons x (to_pivot xs) (to_pivot (xs ++ ys)) again)
-    go false false e again = (cond (any (λ r. r.pivot) (xs ++ ys)) (x ∷ to_pivot (xs ++ ys)) [], refl)
+    go false false e again = (cond (list_any (λ r. r.pivot) (xs ++ ys)) (x ∷ to_pivot (xs ++ ys)) [], refl)
 
 -- one more that is no pivot
-any_plain : (xs : List Record) (r : Record) → r.pivot ≡ false → any (λ x. x.pivot) (xs ++ r ∷ []) ≡ any (λ x. x.pivot) xs
+any_plain : (xs : List Record) (r : Record) → r.pivot ≡ false → list_any (λ x. x.pivot) (xs ++ r ∷ []) ≡ list_any (λ x. x.pivot) xs
 any_plain [] r e = ap (λ b. b || false) e
 any_plain (x ∷ xs) r e = ap (λ b. x.pivot || b) (any_plain xs r e)
 
@@ -142,13 +143,13 @@ module _ (m c : ℕ) where
       go true e = ap (λ l. committed_under m c x ∷ l) e
       go false e = e
 
-  any_sealed : (xs : List Record) → any (λ r. r.pivot) (map (committed_under m c) xs) ≡ any (λ r. r.pivot) xs
+  any_sealed : (xs : List Record) → list_any (λ r. r.pivot) (map (committed_under m c) xs) ≡ list_any (λ r. r.pivot) xs
   any_sealed [] = refl
   any_sealed (x ∷ xs) = λ i. sealed_pivot x i || any_sealed xs i
 
   pub pivot_sealed : (xs : List Record) → map without_commit_number (to_pivot (map (committed_under m c) xs)) ≡ map without_commit_number (to_pivot xs)
   pivot_sealed [] = refl
-  pivot_sealed (x ∷ xs) = ap (λ b. map without_commit_number (cond b (committed_under m c x ∷ to_pivot (map (committed_under m c) xs)) [])) (λ i. sealed_pivot x i || any_sealed xs i) ∙ go (x.pivot || any (λ r. r.pivot) xs) (pivot_sealed xs)
+  pivot_sealed (x ∷ xs) = ap (λ b. map without_commit_number (cond b (committed_under m c x ∷ to_pivot (map (committed_under m c) xs)) [])) (λ i. sealed_pivot x i || any_sealed xs i) ∙ go (x.pivot || list_any (λ r. r.pivot) xs) (pivot_sealed xs)
     where
       go : (b : Bool) → map without_commit_number (to_pivot (map (committed_under m c) xs)) ≡ map without_commit_number (to_pivot xs) → map without_commit_number (cond b (committed_under m c x ∷ to_pivot (map (committed_under m c) xs)) []) ≡ map without_commit_number (cond b (x ∷ to_pivot xs) [])
       go true e = λ i. sealed_bare x i ∷ e i

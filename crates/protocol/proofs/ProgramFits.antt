@@ -1,6 +1,6 @@
 -- What comes next fits.
 use Rattle.std.proofs.Common.{◌≡◌, ℕ, zero, suc, Bool, true, false, eqb, ltb, List, [], ◌∷◌, ◌++◌, Some, None, Option, sym, refl}
-use Rattle.std.specs.List.{AllByRecursion}
+use Rattle.std.specs.List.{AllByRecursion, list_any}
 use Rattle.std.proofs.lemmas.Bool.{true≢false, false≢true, not-false}
 use Rattle.std.specs.Bool.{then_some}
 use Rattle.std.specs.Option.{option_or}
@@ -15,7 +15,6 @@ use Rattle.program.specs.Positions.{in_body, in_row, Position, outer, inner, alt
 use Rattle.protocol.specs.Ahead.{Next, nothing, plain, crossing, next}
 use Rattle.program.specs.declared.command.Step.{Step}
 use Rattle.protocol.specs.Hall.{failed, Hall}
-use Rattle.protocol.specs.Log.{any}
 use Rattle.protocol.specs.declared.answer.Refusal.TheVariants.{NoPlace, Busy}
 use Rattle.protocol.specs.CallFunction.{fits, fault, faults, against_load}
 use Rattle.protocol.proofs.Processes.{none_some}
@@ -120,4 +119,4 @@ module _ {S : Type 0} (M : Meaning S) where
     choices_fit (or_else b c) f = (body_fits b (split (body_steps b) (choices_steps c) f).0, choices_fit c (split (body_steps b) (choices_steps c) f).1)
 
   pub load_fits : (h : Hall S) (k : ℕ) (p : Body) → against_load M h k p ≡ None → FitsBody M p
-  load_fits h k p e = body_fits p (faultless 0 (body_steps p) (else_none (then_some (any (λ q. eqb q.place k) h.processes) Busy) (faults M 0 (body_steps p)) (else_none (then_some (ltb 7 k) NoPlace) (option_or (then_some (any (λ q. eqb q.place k) h.processes) Busy) (faults M 0 (body_steps p))) e).1).1)
+  load_fits h k p e = body_fits p (faultless 0 (body_steps p) (else_none (then_some (list_any (λ q. eqb q.place k) h.processes) Busy) (faults M 0 (body_steps p)) (else_none (then_some (ltb 7 k) NoPlace) (option_or (then_some (list_any (λ q. eqb q.place k) h.processes) Busy) (faults M 0 (body_steps p))) e).1).1)

@@ -1,5 +1,6 @@
 -- What each call comes to, as a function. What the rules say is the relation in Comes.antt; that the two agree is proved.
 use Rattle.std.specs.Prelude.{ℕ, suc, ◌+◌, ◌*◌, Bool, cond, not, List, [], ◌∷◌, ◌++◌, length, is_some, Some, None, Option, nat_eq, nat_le, nat_lt, slice_index_or, Ok, Err}
+use Rattle.std.specs.List.{list_any}
 use Rattle.std.specs.Bool.{then_some}
 use Rattle.std.specs.Option.{option_or}
 use Rattle.protocol.specs.declared.scan.Request.{Request}
@@ -15,7 +16,7 @@ use Rattle.program.specs.Grammar.{Body, body_steps}
 use Rattle.program.specs.declared.command.Kind.{Kind}
 use Rattle.program.specs.declared.command.Kind.TheVariants.{Compensatable, Pivot, Retriable}
 use Rattle.program.specs.declared.command.Step.{Step}
-use Rattle.protocol.specs.Log.{any, committed_records}
+use Rattle.protocol.specs.Log.{committed_records}
 use Rattle.protocol.specs.Hall.{Process, Hall, find, changed, stand, with_processes, with_program, with_process, Outcome, answered}
 use Rattle.protocol.specs.Call.{Call, loading, installing, opening, stepping, cancelling, Event, call, scan}
 use Rattle.protocol.specs.Letters.{call_of, written}
@@ -39,7 +40,7 @@ module _ {S : Type 0} where
   refused_or h (Some r) on = answered h (Err r)
 
   abbrev pub against_load : Meaning S → Hall S → ℕ → Body → Option Refusal
-  against_load M h k b = option_or (then_some (nat_lt 7 k) NoPlace) (option_or (then_some (any (λ q. nat_eq q.place k) h.processes) Busy) (faults M 0 (body_steps b)))
+  against_load M h k b = option_or (then_some (nat_lt 7 k) NoPlace) (option_or (then_some (list_any (λ q. nat_eq q.place k) h.processes) Busy) (faults M 0 (body_steps b)))
 
   abbrev pub loaded : Hall S → ℕ → Body → Outcome S
   loaded h k b = answered (with_program h k b) (Ok Loaded)

@@ -1,5 +1,6 @@
 -- What a step comes to, as a function. What the rules say is the relation in Relation.antt; that the two agree is proved.
 use Rattle.std.specs.Prelude.{ℕ, suc, Bool, true, false, cond, not, ◌&&◌, ◌||◌, List, [], ◌∷◌, ◌++◌, map, Some, None, Option, ◌==◌, nat_lt, Ok, Err}
+use Rattle.std.specs.List.{list_any}
 use Rattle.activity.specs.declared.Activity.{Activity}
 use Rattle.protocol.specs.declared.record.Record.{Record}
 use Rattle.protocol.specs.declared.standing.Standing.{Standing}
@@ -12,21 +13,21 @@ use Rattle.protocol.specs.declared.answer.Refusal.TheVariants.{NoProcess}
 use Rattle.station.specs.Meaning.{Meaning}
 use Rattle.program.specs.Positions.{Position, alternative_of, into}
 use Rattle.protocol.specs.Ahead.{Next, nothing, plain, crossing, next}
-use Rattle.protocol.specs.Log.{any, owned, own, Split, removed, returnable, from_pivot, committed_under}
+use Rattle.protocol.specs.Log.{owned, own, Split, removed, returnable, from_pivot, committed_under}
 use Rattle.protocol.specs.Hall.{Process, Hall, without, changed, stand, move, with_processes, beginning, running, past_pivot, retreating, least, failed, standing_after, record_of, Outcome, answered}
 
 -- the process n has a record that conflicts with the activity
 abbrev pub holds_conflict : (ℕ → ℕ → Bool) → ℕ → ℕ → List Record → Bool
-holds_conflict conflict n a log = any (λ r. owned n r && conflict r.activity.number a) log
+holds_conflict conflict n a log = list_any (λ r. owned n r && conflict r.activity.number a) log
 
 -- the process n has a record in conflict with one of these
 abbrev pub holds_any_conflict : (ℕ → ℕ → Bool) → ℕ → List Record → List Record → Bool
-holds_any_conflict conflict n log mine = any (λ r. holds_conflict conflict n r.activity.number log) mine
+holds_any_conflict conflict n log mine = list_any (λ r. holds_conflict conflict n r.activity.number log) mine
 
 -- the process n has a record before a conflicting one of the process m
 abbrev pub stands_before_conflict : (ℕ → ℕ → Bool) → ℕ → ℕ → List Record → Bool
 stands_before_conflict conflict n m [] = false
-stands_before_conflict conflict n m (r ∷ rs) = (owned n r && any (λ x. owned m x && conflict r.activity.number x.activity.number) rs) || stands_before_conflict conflict n m rs
+stands_before_conflict conflict n m (r ∷ rs) = (owned n r && list_any (λ x. owned m x && conflict r.activity.number x.activity.number) rs) || stands_before_conflict conflict n m rs
 
 -- another process than p, and younger than p
 abbrev pub other : Process → Process → Bool
