@@ -4,10 +4,6 @@ use Rattle.std.specs.List.{list_any}
 use Rattle.serial.specs.Sorts.{sort}
 use Rattle.protocol.specs.declared.record.Record.{Record}
 
--- some element passes the test
-abbrev pub any : {X : Type 0} → (X → Bool) → List X → Bool
-any p xs = list_any p xs
-
 abbrev pub owned : ℕ → Record → Bool
 owned n r = r.start == n
 
