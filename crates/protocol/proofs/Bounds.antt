@@ -21,7 +21,8 @@ use Rattle.protocol.specs.CallFunction.{against_open, outcome, ends, all_singles
 use Rattle.protocol.specs.Log.{committed_records}
 use Rattle.protocol.proofs.Computed.{hall_after}
 use Rattle.protocol.specs.Room.{Bounded}
-use Rattle.protocol.proofs.Processes.{change_keeps, none_some}
+use Rattle.protocol.proofs.Processes.{change_keeps}
+use Rattle.protocol.proofs.Objections.{openable}
 use Rattle.protocol.proofs.CallCases.{cases}
 use Rattle.protocol.proofs.Counts.{length-map, length_push, without_less}
 use Rattle.protocol.proofs.Promise.{all_is}
@@ -59,14 +60,6 @@ all_push P (p ∷ ps) q h x = (h.0, all_push P ps q h.1 x)
 rising_push : (ps : List Process) (q : Process) → Pairwise (λ a b. a.start < b.start) ps → AllByRecursion (λ p. p.start < q.start) ps → Pairwise (λ a b. a.start < b.start) (ps ++ q ∷ [])
 rising_push [] q h x = (tt, tt)
 rising_push (p ∷ ps) q h x = (all_push (λ b. p.start < b.start) ps q h.0 x.0, rising_push ps q h.1 x.1)
-
-else_none : {X : Type 0} (a b : Option X) → option_or a b ≡ None → (a ≡ None) × (b ≡ None)
-else_none None b e = (refl, e)
-else_none (Some x) b e = absurd (none_some (sym e))
-
-when_none : {X : Type 0} (b : Bool) (x : X) → then_some b x ≡ None → b ≡ false
-when_none true x e = absurd (none_some (sym e))
-when_none false x e = refl
 
 module _ {S : Type 0} where
   bounded_map : (h : Hall S) → Bounded h → (f : Process → Process) → ((q : Process) → (f q).start ≡ q.start) → Bounded (with_processes h (map f h.processes))
@@ -111,17 +104,11 @@ module _ {S : Type 0} where
 
       opens : (k : ℕ) → against_open h k ≡ None → Bounded (Rattle.protocol.specs.CallFunction.opened h k).hall
       opens k e =
-          let room = then_some (ltb 1024 (length (committed_records h.log) + 32 * (length h.processes + 1))) NoRoom in
-          let numbers = then_some (leb 65535 h.given) NoNumber in
-          let full = then_some (leb 16 (length h.processes)) Full in
-          let loaded = then_some (not (is_some (get_or h.programs k None))) NotLoaded in
-          let (x, y) = else_none full (option_or numbers room) (else_none loaded (option_or full (option_or numbers room)) (else_none (then_some (ltb 7 k) NoPlace) (option_or loaded (option_or full (option_or numbers room))) e).1).1 in
-          let few : length h.processes < 16 = leb-false 16 (length h.processes) (when_none _ Full x) in
-          let low : h.given < 65535 = leb-false 65535 h.given (when_none _ NoNumber (else_none numbers room y).0) in
+          let free = openable h k e in
           let new = length_push h.processes record { start = suc h.given; place = k; standing = Running; at = beginning h.programs k } in
           record {
-            given = low;
-            active = omega (arith, new, few);
+            given = free.low;
+            active = omega (arith, new, free.few);
             committed = omega (arith, new, b.committed);
             rising = rising_push h.processes record { start = suc h.given; place = k; standing = Running; at = beginning h.programs k } b.rising (All-weaker (λ q. q.start ≤ h.given) (λ q. q.start < suc h.given) (λ q x. omega arith) h.processes b.starts);
             starts = all_push (λ q. q.start ≤ suc h.given) h.processes record { start = suc h.given; place = k; standing = Running; at = beginning h.programs k } (All-weaker (λ q. q.start ≤ h.given) (λ q. q.start ≤ suc h.given) (λ q x. omega arith) h.processes b.starts) (omega arith);

@@ -1,4 +1,5 @@
 pub mod Members
+pub mod Objections
 pub mod Processes
 pub mod Ranks
 pub mod LastRecords

@@ -25,6 +25,7 @@ use Rattle.protocol.specs.Statements.{without_commit_number}
 use Rattle.protocol.proofs.Computed.{hall_after}
 use Rattle.protocol.proofs.Members.{In}
 use Rattle.protocol.proofs.Processes.{from_map, from_changed, from_without, from_push, none_some}
+use Rattle.protocol.proofs.Objections.{openable}
 use Rattle.protocol.proofs.LastRecords.{NotOf, Loose, LooseIs, loose_is}
 use Rattle.protocol.proofs.PivotsStay.{own_none, own_sealed, pivot_sealed, pivot_plain}
 use Rattle.protocol.proofs.Counts.{length-map, length_push, parts, size, Roomy, roomy_few, roomy_alike, NextRoom, next_room, own_pushed, own_taken, own_left, own_others, none_loose, two_kinds, closed_push, closed_less, closed_sealed, without_less, kept_in, fewer_own, spread}
@@ -154,15 +155,6 @@ module _ {S : Type 0} where
             roomy_alike xs (map (committed_under p.start (suc h.committed)) xs) at to
             (omega (arith, parts xs, parts (map (committed_under p.start (suc h.committed)) xs), length-map (committed_under p.start (suc h.committed)) xs, to)) room
 
--- else: the last objection
-last_none : {X : Type 0} (a b : Option X) → option_or a b ≡ None → b ≡ None
-last_none None b e = e
-last_none (Some x) b e = absurd (none_some (sym e))
-
-when_none : {X : Type 0} (b : Bool) (x : X) → then_some b x ≡ None → b ≡ false
-when_none true x e = absurd (none_some (sym e))
-when_none false x e = refl
-
 -- the alternative at an ordinal that is reached is the one that was asked for
 reached_alternative : (c : Choices) (k : ℕ) → alternative c (reached c k) ≡ alternative c k
 reached_alternative (row ss) k = refl
@@ -180,7 +172,7 @@ module _ {S : Type 0} (M : Meaning S) where
     waited = λ p is told n. rooms_marked h rooms told;
     loads = λ k b w e. rooms_loaded h rooms k b w.1.few;
     installs = λ k t b read e. rooms_loaded h rooms k b read.few;
-    opens = λ k e. rooms_opened h rooms free k (full k e);
+    opens = λ k e. rooms_opened h rooms free k (openable h k e).room;
     cancels = λ p is e. rooms_changed h rooms p.start p is (stand (Withdrawing End)) (λ q. refl) (rooms.actives p.start p is);
     steps = λ p is g a to n free o e. rooms_done h rooms p is false a to o (subst (NextRoom (own p.start h.log)) n (next_room (own p.start h.log) p.at (rooms.actives p.start p is)));
     crosses = λ p is g a to n alone free o e. rooms_done h rooms p is true a to o (subst (NextRoom (own p.start h.log)) n (next_room (own p.start h.log) p.at (rooms.actives p.start p is)));
@@ -190,13 +182,6 @@ module _ {S : Type 0} (M : Meaning S) where
     leaves = λ p is e none. rooms_gone h rooms p.start p is;
     turns = λ p is e none. rooms_changed h rooms p.start p is (move (PastPivot Forward) (into (suc (alternative_of p.at)) p.at)) (λ q. refl) (into_room (own p.start h.log) p.at (suc (alternative_of p.at)) (none_loose p.start h.log none) (rooms.actives p.start p is));
   }
-    where
-      full : (k : ℕ) → against_open h k ≡ None → length (committed_records h.log) + 32 * (length h.processes + 1) ≤ 1024
-      full k e = ltb-false 1024 _ (when_none _ NoRoom
-          (last_none (then_some (leb 65535 h.given) NoNumber) (then_some (ltb 1024 (length (committed_records h.log) + 32 * (length h.processes + 1))) NoRoom)
-          (last_none (then_some (leb 16 (length h.processes)) Full) (option_or (then_some (leb 65535 h.given) NoNumber) (then_some (ltb 1024 (length (committed_records h.log) + 32 * (length h.processes + 1))) NoRoom))
-          (last_none (then_some (not (is_some (get_or h.programs k None))) NotLoaded) (option_or (then_some (leb 16 (length h.processes)) Full) (option_or (then_some (leb 65535 h.given) NoNumber) (then_some (ltb 1024 (length (committed_records h.log) + 32 * (length h.processes + 1))) NoRoom)))
-          (last_none (then_some (ltb 7 k) NoPlace) (option_or (then_some (not (is_some (get_or h.programs k None))) NotLoaded) (option_or (then_some (leb 16 (length h.processes)) Full) (option_or (then_some (leb 65535 h.given) NoNumber) (then_some (ltb 1024 (length (committed_records h.log) + 32 * (length h.processes + 1))) NoRoom)))) e)))))
 
 module _ {S : Type 0} (M : Meaning S) (laws : Laws M) (s : S) where
   rooms_outcome : (h : Hall S) → Sound M s h → Rooms h → (c : Call) → Rooms (outcome M h c).hall
