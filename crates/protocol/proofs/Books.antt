@@ -2,6 +2,7 @@
 use Rattle.std.proofs.Common.{◌≡◌, ℕ, suc, Bool, true, false, cond, not, ◌&&◌, eqb, List, [], ◌∷◌, ◌++◌, map, Some, None, filter, Option, refl, ap, ◌∙◌, inl, inr, Ok, Err}
 use Rattle.std.specs.Option.{option_map}
 use Rattle.std.proofs.lemmas.Bool.{ne_eqb}
+use Rattle.std.proofs.lemmas.Option.{none-some}
 use Rattle.activity.specs.declared.Activity.{Activity}
 use Rattle.protocol.specs.declared.record.Record.{Record}
 use Rattle.protocol.specs.declared.answer.Refusal.{Refusal}
@@ -22,7 +23,6 @@ use Rattle.protocol.specs.Call.{Call, loading, installing, opening, stepping, ca
 use Rattle.protocol.specs.CallFunction.{outcome}
 use Rattle.protocol.proofs.CallCases.{cases}
 use Rattle.protocol.specs.Book.{Entry, Book, seek, struck, moved, with_entries, keep, keep_next, on_step, noted}
-use Rattle.protocol.proofs.Processes.{none_some}
 use Rattle.protocol.proofs.LastRecords.{NotOf}
 use Rattle.protocol.proofs.Sound.{Sound}
 use Rattle.protocol.proofs.SoundKept.{none_left}
@@ -91,7 +91,7 @@ last_from_loose None z e = e
 last_from_loose (Some s) z e = go s.at.pivot e
   where
     go : (b : Bool) → cond b None (Some s) ≡ Some z → Some s ≡ Some z
-    go true f = absurd (none_some f)
+    go true f = absurd (none-some _ f)
     go false f = f
 
 module _ {S : Type 0} (M : Meaning S) (laws : Laws M) (s : S) where

@@ -3,6 +3,7 @@ use Rattle.std.proofs.Common.{◌≡◌, ℕ, suc, ◌+◌, ◌*◌, ◌<◌, �
 use Rattle.std.specs.List.{AllByRecursion}
 use Rattle.std.proofs.ByRecursion.{All-weaker}
 use Rattle.std.proofs.lemmas.Bool.{leb-false}
+use Rattle.std.proofs.lemmas.List.{length-map, length_push}
 use Rattle.serial.specs.Sorts.{Pairwise}
 use Rattle.std.specs.Bool.{then_some}
 use Rattle.std.specs.Option.{option_or}
@@ -21,10 +22,10 @@ use Rattle.protocol.specs.CallFunction.{against_open, outcome, ends, all_singles
 use Rattle.protocol.specs.Log.{committed_records}
 use Rattle.protocol.proofs.Computed.{hall_after}
 use Rattle.protocol.specs.Room.{Bounded}
-use Rattle.protocol.proofs.Processes.{change_keeps}
+use Rattle.protocol.proofs.Processes.{change_keeps, marked_keeps}
 use Rattle.protocol.proofs.Objections.{openable}
 use Rattle.protocol.proofs.CallCases.{cases}
-use Rattle.protocol.proofs.Counts.{length-map, length_push, without_less}
+use Rattle.protocol.proofs.Counts.{without_less}
 use Rattle.protocol.proofs.Promise.{all_is}
 
 -- lists that were changed
@@ -65,8 +66,8 @@ module _ {S : Type 0} where
   bounded_map : (h : Hall S) → Bounded h → (f : Process → Process) → ((q : Process) → (f q).start ≡ q.start) → Bounded (with_processes h (map f h.processes))
   bounded_map h b f keeps = record {
     given = b.given;
-    active = omega (arith, length-map f h.processes, b.active);
-    committed = omega (arith, length-map f h.processes, b.committed);
+    active = omega (arith, length-map h.processes f, b.active);
+    committed = omega (arith, length-map h.processes f, b.committed);
     rising = rising_map f keeps h.processes b.rising;
     starts = all_map (λ q. q.start ≤ h.given) f (λ q x. subst (λ n. n ≤ h.given) (sym (keeps q)) x) h.processes b.starts;
   }
@@ -84,7 +85,7 @@ module _ {S : Type 0} where
   pub bounded_outcome : (M : Meaning S) (h : Hall S) → Bounded h → (c : Call) → Bounded (outcome M h c).hall
   bounded_outcome M h b = cases M h (λ c o. Bounded o.hall) record {
     refused = λ c r. b;
-    waited = λ p is told n. bounded_map h b (marked told) (λ q. keeps told q (told q && running q.standing));
+    waited = λ p is told n. bounded_map h b (marked told) (marked_keeps told);
     installs = λ k t p w e. record { given = b.given; active = b.active; committed = b.committed; rising = b.rising; starts = b.starts };
     loads = λ k p w e. record { given = b.given; active = b.active; committed = b.committed; rising = b.rising; starts = b.starts };
     opens = opens;
@@ -98,10 +99,6 @@ module _ {S : Type 0} where
     turns = λ p is e none. bounded_changed h b p.start (move (PastPivot Forward) (into (suc (alternative_of p.at)) p.at)) (λ q. refl);
   }
     where
-      keeps : (told : Process → Bool) (q : Process) (t : Bool) → (cond t (stand (Withdrawing Restart) q) q).start ≡ q.start
-      keeps told q true = refl
-      keeps told q false = refl
-
       opens : (k : ℕ) → against_open h k ≡ None → Bounded (Rattle.protocol.specs.CallFunction.opened h k).hall
       opens k e =
           let free = openable h k e in

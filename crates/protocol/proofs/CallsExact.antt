@@ -1,7 +1,8 @@
 -- Each call comes to exactly one thing: what the function gives is what the relation allows.
 use Rattle.std.proofs.Common.{◌≡◌, ℕ, suc, Bool, true, false, cond, not, eqb, ltb, leb, List, [], ◌∷◌, length, get_or, is_some, Some, None, Option, sym, refl, ap, ◌∙◌, subst, inl, inr, arith}
 use Rattle.std.specs.List.{AllByRecursion, list_any}
-use Rattle.std.proofs.lemmas.Bool.{false≢true, both_ways, not-true, not_from_false, ltb-true, ltb-false, leb-true, leb-false, lt-ltb, le-ltb, le-leb, lt-leb, eqb-true, eq-eqb, or_cases}
+use Rattle.std.proofs.lemmas.Bool.{false≢true, false_from_ne_true, both_ways, not-true, not_from_false, ltb-true, ltb-false, leb-true, leb-false, lt-ltb, le-ltb, le-leb, lt-leb, eqb-true, eq-eqb}
+use Rattle.std.proofs.lemmas.Option.{none-some, same_Some}
 use Rattle.station.specs.Meaning.{Meaning}
 use Rattle.program.specs.declared.command.Kind.{Kind}
 use Rattle.program.specs.declared.command.Kind.TheVariants.{Compensatable, Pivot, Retriable}
@@ -23,26 +24,8 @@ use Rattle.protocol.specs.CallFunction.{fits, fault, faults, refused_or, loaded,
 use Rattle.protocol.specs.Letters.{call_of, written}
 use Rattle.protocol.specs.Comes.{OfKind, Fits, Unfit, no_such_activity, of_another_kind, further_on, Unused, IsLoaded, records_at_most, Comes, load_nowhere, load_busy, load_unfit, loads, install_no_program, installs, open_nowhere, open_not_loaded, open_full, open_no_number, open_no_room, opens, step_nobody, steps, cancel_nobody, cancel_past_pivot, cancel_withdrawing, cancels, WorksOne, known, unknown, Works, none_left, one_by_one, Scans, too_long, worked}
 use Rattle.protocol.specs.Exact.{CallsExactly, ScansExactly}
-use Rattle.protocol.proofs.Members.{some_any, any_none}
+use Rattle.protocol.proofs.Members.{some_any, in_any, any_none}
 use Rattle.protocol.proofs.StepsExact.{exact}
-
-in_any : {X : Type 0} (p : X → Bool) (xs : List X) → list_any p xs ≡ true → (x : X) × In x xs × (p x ≡ true)
-in_any p [] e = absurd (false≢true e)
-in_any p (x ∷ xs) e =
-    elim (or_cases (p x) (list_any p xs) e) [
-      | inl t ↦ (x, inl refl, t)
-      | inr more ↦ let (y, i, t) = in_any p xs more in (y, inr i, t)
-    ]
-
-not_true_false : (b : Bool) → (b ≡ true → ⊥) → b ≡ false
-not_true_false true f = absurd (f refl)
-not_true_false false f = refl
-
-some_is : {X : Type 0} {x y : X} → Some x ≡ Some y → x ≡ y
-some_is {X} {x} {y} e = let f : x ≡ y = cc in f
-
-no_some : {X : Type 0} {x : X} → Some x ≡ None → ⊥
-no_some {X} {x} e = false≢true (sym (ap is_some e))
 
 module _ {S : Type 0} (M : Meaning S) where
   -- ---- which steps fit
@@ -61,8 +44,8 @@ module _ {S : Type 0} (M : Meaning S) where
   checked i absent fit rest = option_or (option_or (then_some absent (NoActivity i)) (then_some (not fit) (WrongKind i))) rest
 
   step_fits : (i : ℕ) (s : Step) (absent fit : Bool) → leb M.activities s.activity.number ≡ absent → fits M s.kind s.activity.number ≡ fit → (rest : Option Refusal) → checked i absent fit rest ≡ None → Fits M s × (rest ≡ None)
-  step_fits i s true fit e f rest g = absurd (no_some g)
-  step_fits i s false false e f rest g = absurd (no_some g)
+  step_fits i s true fit e f rest g = absurd (none-some _ (sym g))
+  step_fits i s false false e f rest g = absurd (none-some _ (sym g))
   step_fits i s false true e f rest g = (record { exists = leb-false M.activities s.activity.number e; kind = kind_fits s.kind s.activity.number f }, g)
 
   all_fit : (i : ℕ) (ss : List Step) → faults M i ss ≡ None → AllByRecursion (Fits M) ss
@@ -72,12 +55,12 @@ module _ {S : Type 0} (M : Meaning S) where
       (here, all_fit (suc i) ss rest)
 
   first_unfit : (i : ℕ) (ss : List Step) (r : Refusal) → faults M i ss ≡ Some r → Unfit M i ss r
-  first_unfit i [] r e = absurd (no_some (sym e))
+  first_unfit i [] r e = absurd (none-some _ e)
   first_unfit i (s ∷ ss) r e = go (first_unfit (suc i) ss r) (leb M.activities s.activity.number) (fits M s.kind s.activity.number) refl refl e
     where
       go : (faults M (suc i) ss ≡ Some r → Unfit M (suc i) ss r) → (absent fit : Bool) → leb M.activities s.activity.number ≡ absent → fits M s.kind s.activity.number ≡ fit → checked i absent fit (faults M (suc i) ss) ≡ Some r → Unfit M i (s ∷ ss) r
-      go more true fit x y g = subst (Unfit M i (s ∷ ss)) (some_is g) (no_such_activity (leb-true M.activities s.activity.number x))
-      go more false false x y g = subst (Unfit M i (s ∷ ss)) (some_is g) (of_another_kind (leb-false M.activities s.activity.number x) (λ k. both_ways (fits M s.kind s.activity.number) y (fits_kind s.kind s.activity.number k)))
+      go more true fit x y g = subst (Unfit M i (s ∷ ss)) (same_Some _ _ g) (no_such_activity (leb-true M.activities s.activity.number x))
+      go more false false x y g = subst (Unfit M i (s ∷ ss)) (same_Some _ _ g) (of_another_kind (leb-false M.activities s.activity.number x) (λ k. both_ways (fits M s.kind s.activity.number) y (fits_kind s.kind s.activity.number k)))
       go more false true x y g = further_on (record { exists = leb-false M.activities s.activity.number x; kind = kind_fits s.kind s.activity.number y }) (more g)
 
   fit_checked : (i : ℕ) (s : Step) (rest : Option Refusal) → Fits M s → option_or (fault M i s) rest ≡ rest
@@ -90,7 +73,7 @@ module _ {S : Type 0} (M : Meaning S) where
   faulted : (i : ℕ) (ss : List Step) (r : Refusal) → Unfit M i ss r → faults M i ss ≡ Some r
   faulted i ss r (no_such_activity {s = s} {ss = rest} above) = λ j. checked i (le-leb M.activities s.activity.number above j) (fits M s.kind s.activity.number) (faults M (suc i) rest)
   faulted i ss r (of_another_kind {s = s} {ss = rest} below other) =
-      let unfit : fits M s.kind s.activity.number ≡ false = not_true_false (fits M s.kind s.activity.number) (λ e. other (kind_fits s.kind s.activity.number e)) in
+      let unfit : fits M s.kind s.activity.number ≡ false = false_from_ne_true (fits M s.kind s.activity.number) (λ e. other (kind_fits s.kind s.activity.number e)) in
       λ j. checked i (lt-leb M.activities s.activity.number below j) (unfit j) (faults M (suc i) rest)
   faulted i ss r (further_on {s = s} {ss = rest} f u) = fit_checked i s (faults M (suc i) rest) f ∙ faulted (suc i) rest r u
 
@@ -110,7 +93,7 @@ module _ {S : Type 0} (M : Meaning S) where
       unused e q i at = both_ways (runs_there q) (any_none runs_there h.processes e q i) (eq-eqb q.place k at)
 
       used_not : Unused M h k → list_any runs_there h.processes ≡ false
-      used_not u = not_true_false (list_any runs_there h.processes) (λ e. let (q, i, t) = in_any runs_there h.processes e in u q i (eqb-true q.place k t))
+      used_not u = false_from_ne_true (list_any runs_there h.processes) (λ e. let (q, i, t) = in_any runs_there h.processes e in u q i (eqb-true q.place k t))
 
       load_allowed : (far busy : Bool) (unfit : Option Refusal) → ltb 7 k ≡ far → list_any runs_there h.processes ≡ busy → faults M 0 (body_steps b) ≡ unfit → Allowed (loading k b w) (load_by far busy unfit)
       load_allowed true busy unfit e f g = load_nowhere (ltb-true 7 k e)
@@ -141,7 +124,7 @@ module _ {S : Type 0} (M : Meaning S) where
       loaded_some (b, e) = ap is_some e
 
       not_loaded : (IsLoaded M h k → ⊥) → is_some at_place ≡ false
-      not_loaded f = not_true_false (is_some at_place) (λ e. f (is_loaded at_place e))
+      not_loaded f = false_from_ne_true (is_some at_place) (λ e. f (is_loaded at_place e))
 
       open_allowed : (far there full last over : Bool) → ltb 7 k ≡ far → is_some at_place ≡ there → leb 16 (length h.processes) ≡ full → leb 65535 h.given ≡ last → ltb 1024 (records_at_most M h) ≡ over → Allowed (opening k) (open_by far there full last over)
       open_allowed true there full last over e f g n r = open_nowhere (ltb-true 7 k e)

@@ -1,4 +1,5 @@
 pub mod Members
+pub mod Sealed
 pub mod Objections
 pub mod Processes
 pub mod Ranks

@@ -1,9 +1,14 @@
 -- What stands in a list, and what stands before what.
 use Rattle.std.proofs.Common.{◌≡◌, Bool, true, false, cond, ◌&&◌, ◌||◌, ◌⊎◌, List, [], ◌∷◌, ◌++◌, map, filter, sym, refl, ap, ◌∙◌, inl, inr, ⊎_elim}
-use Rattle.std.proofs.lemmas.Bool.{or_parts, or_left, or_right, or_from}
+use Rattle.std.proofs.lemmas.List.Folds.{list_any-append}
+use Rattle.std.proofs.lemmas.Bool.{false≢true, or_cases, or_parts, or_left, or_right, or_from}
 use Rattle.std.specs.List.{AllByRecursion, list_any}
 use Rattle.serial.specs.Sorts.{Pairwise}
 pub use Rattle.protocol.specs.Relation.{In, Before}
+
+pub or_off : (b c : Bool) → c ≡ false → (b || c) ≡ b
+or_off true c e = refl
+or_off false c e = e
 
 module _ {X : Type 0} where
   pub all_from : (P : X → Type 0) (xs : List X) → ((x : X) → In x xs → P x) → AllByRecursion P xs
@@ -75,26 +80,20 @@ module _ {X : Type 0} where
   none_any p [] f = refl
   none_any p (y ∷ ys) f = or_from (p y) (list_any p ys) (f y (inl refl)) (none_any p ys (λ x i. f x (inr i)))
 
+  pub in_any : (p : X → Bool) (xs : List X) → list_any p xs ≡ true → (x : X) × In x xs × (p x ≡ true)
+  in_any p [] e = absurd (false≢true e)
+  in_any p (x ∷ xs) e = ⊎_elim (λ t. (x, inl refl, t)) (λ more. let (y, i, t) = in_any p xs more in (y, inr i, t)) (or_cases (p x) (list_any p xs) e)
+
   pub some_any : (p : X → Bool) (xs : List X) (x : X) → In x xs → p x ≡ true → list_any p xs ≡ true
   some_any p (y ∷ ys) x (inl q) e = or_left (p y) (list_any p ys) (ap p (sym q) ∙ e)
   some_any p (y ∷ ys) x (inr i) e = or_right (p y) (list_any p ys) (some_any p ys x i e)
   some_any p [] x i e = elim i [ ]
 
   pub any_push : (p : X → Bool) (xs : List X) (r : X) → list_any p (xs ++ r ∷ []) ≡ (list_any p xs || p r)
-  any_push p [] r = or_false (p r)
-    where
-      or_false : (b : Bool) → (b || false) ≡ b
-      or_false true = refl
-      or_false false = refl
-  any_push p (x ∷ xs) r = ap (λ b. p x || b) (any_push p xs r) ∙ regroup (p x) (list_any p xs) (p r)
-    where
-      regroup : (a b c : Bool) → (a || (b || c)) ≡ ((a || b) || c)
-      regroup true b c = refl
-      regroup false b c = refl
+  any_push p xs r = list_any-append p xs (r ∷ []) ∙ ap (λ b. list_any p xs || b) (or_off (p r) false refl)
 
   pub any_more : (p : X → Bool) (xs : List X) (r : X) (ys : List X) → p r ≡ false → list_any p (xs ++ ys) ≡ list_any p (xs ++ r ∷ ys)
-  any_more p [] r ys e = ap (λ b. b || list_any p ys) (sym e)
-  any_more p (x ∷ xs) r ys e = ap (λ b. p x || b) (any_more p xs r ys e)
+  any_more p xs r ys e = list_any-append p xs ys ∙ ap (λ b. list_any p xs || (b || list_any p ys)) (sym e) ∙ sym (list_any-append p xs (r ∷ ys))
 
   pub any_map : (p : X → Bool) (f : X → X) → ((x : X) → p (f x) ≡ p x) → (xs : List X) → list_any p (map f xs) ≡ list_any p xs
   any_map p f same [] = refl

@@ -2,9 +2,12 @@
 use Rattle.std.proofs.Common.{◌≡◌, ℕ, zero, suc, ◌+◌, ◌*◌, ◌≤◌, Bool, true, false, cond, not, ◌&&◌, eqb, ltb, leb, List, [], ◌∷◌, ◌++◌, map, length, get_or, is_some, Some, None, filter, Option, sym, refl, ap, ◌∙◌, subst, ⊎_elim, append-nil, arith}
 use Rattle.std.specs.List.{AllByRecursion}
 use Rattle.std.proofs.ByRecursion.{All-set}
-use Rattle.std.proofs.lemmas.Bool.{eqb-true, eq-eqb, ne_eqb, ltb-false, cases_eq}
+use Rattle.std.proofs.lemmas.Bool.{eqb-true, eq-eqb, ne_eqb, ltb-false, cases_eq, cond_both}
 use Rattle.std.specs.Bool.{then_some}
 use Rattle.std.specs.Option.{option_or}
+use Rattle.std.proofs.lemmas.Option.{none-some}
+use Rattle.std.proofs.lemmas.List.Filters.{length-filter_both}
+use Rattle.std.proofs.lemmas.List.{length-map, length_push}
 use Rattle.activity.specs.declared.Activity.{Activity}
 use Rattle.protocol.specs.declared.record.Record.{Record}
 use Rattle.protocol.specs.declared.answer.Refusal.TheVariants.{NoPlace, NotLoaded, Full, NoNumber, NoRoom}
@@ -24,11 +27,11 @@ use Rattle.protocol.proofs.CallCases.{cases}
 use Rattle.protocol.specs.Statements.{without_commit_number}
 use Rattle.protocol.proofs.Computed.{hall_after}
 use Rattle.protocol.proofs.Members.{In}
-use Rattle.protocol.proofs.Processes.{from_map, from_changed, from_without, from_push, none_some}
+use Rattle.protocol.proofs.Processes.{marked_keeps, from_map, from_changed, from_without, from_push}
 use Rattle.protocol.proofs.Objections.{openable}
 use Rattle.protocol.proofs.LastRecords.{NotOf, Loose, LooseIs, loose_is}
 use Rattle.protocol.proofs.PivotsStay.{own_none, own_sealed, pivot_sealed, pivot_plain}
-use Rattle.protocol.proofs.Counts.{length-map, length_push, parts, size, Roomy, roomy_few, roomy_alike, NextRoom, next_room, own_pushed, own_taken, own_left, own_others, none_loose, two_kinds, closed_push, closed_less, closed_sealed, without_less, kept_in, fewer_own, spread}
+use Rattle.protocol.proofs.Counts.{parts, size, Roomy, roomy_few, roomy_alike, NextRoom, next_room, own_pushed, own_taken, own_left, own_others, none_loose, closed_push, closed_less, closed_sealed, without_less, kept_in, fewer_own, spread}
 use Rattle.protocol.specs.Held.{rest_size}
 pub use Rattle.protocol.specs.Held.{Rooms}
 use Rattle.protocol.proofs.Sound.{Sound}
@@ -46,7 +49,7 @@ module _ {S : Type 0} where
   rooms_map h rooms f keeps each = record {
     programs = rooms.programs;
     actives = λ n q e. let (p, at, is) = from_map f keeps n h.processes q e in subst (λ x. Roomy (own n h.log) x.at) (sym is) (each n p at);
-    budget = omega (arith, length-map f h.processes, rooms.budget);
+    budget = omega (arith, length-map h.processes f, rooms.budget);
   }
 
   rooms_changed : (h : Hall S) → Rooms h → (n : ℕ) (p : Process) → find n h.processes ≡ Some p → (f : Process → Process) → ((q : Process) → (f q).start ≡ q.start) → Roomy (own n h.log) (f p).at → Rooms (with_processes h (changed n f h.processes))
@@ -56,19 +59,12 @@ module _ {S : Type 0} where
         (λ mine. subst (λ k. Roomy (own k h.log) q.at) (sym mine.0) (subst (λ x. Roomy (own n h.log) x.at) (sym mine.1) now))
         (λ other. rooms.actives m q other.1)
         (from_changed n p f keeps h.processes is m q e);
-    budget = omega (arith, length-map (change n f) h.processes, rooms.budget);
+    budget = omega (arith, length-map h.processes (change n f), rooms.budget);
   }
 
   rooms_marked : (h : Hall S) → Rooms h → (told : Process → Bool) → Rooms (with_processes h (map (marked told) h.processes))
-  rooms_marked h rooms told = rooms_map h rooms (marked told) (λ q. keeps q (told q && running q.standing)) (λ n q e. stays n q e (told q && running q.standing))
-    where
-      keeps : (q : Process) (b : Bool) → (cond b (stand (Withdrawing Restart) q) q).start ≡ q.start
-      keeps q true = refl
-      keeps q false = refl
-
-      stays : (n : ℕ) (q : Process) → find n h.processes ≡ Some q → (b : Bool) → Roomy (own n h.log) (cond b (stand (Withdrawing Restart) q) q).at
-      stays n q e true = rooms.actives n q e
-      stays n q e false = rooms.actives n q e
+  rooms_marked h rooms told = rooms_map h rooms (marked told) (marked_keeps told)
+      (λ n q e. cond_both (told q && running q.standing) (stand (Withdrawing Restart) q) q (λ x. Roomy (own n h.log) x.at) (λ _. rooms.actives n q e) (λ _. rooms.actives n q e))
 
   rooms_gone : (h : Hall S) → Rooms h → (n : ℕ) (p : Process) → find n h.processes ≡ Some p → Rooms (with_processes h (without n h.processes))
   rooms_gone h rooms n p is = record {
@@ -106,7 +102,7 @@ module _ {S : Type 0} where
           (λ mine. subst (λ k. Roomy (own k (h.log ++ new ∷ [])) q.at) (sym mine.0) (subst (λ x. Roomy (own p.start (h.log ++ new ∷ [])) x.at) (sym mine.1) here))
           (λ other. subst (λ l. Roomy l q.at) (sym (there n other.0)) (rooms.actives n q other.1))
           (from_changed p.start p (move (standing_after pivot p.standing) to) (λ q. refl) h.processes is n q e);
-      budget = omega (arith, length-map (change p.start (move (standing_after pivot p.standing) to)) h.processes, closed_push h.log new refl, rooms.budget);
+      budget = omega (arith, length-map h.processes (change p.start (move (standing_after pivot p.standing) to)), closed_push h.log new refl, rooms.budget);
     }
       where
         new : Record
@@ -151,9 +147,9 @@ module _ {S : Type 0} where
         like : (xs : List Record) (at : Position) → Roomy xs at → Roomy (map (committed_under p.start (suc h.committed)) xs) at
         like xs at room =
             let to : length (to_pivot (map (committed_under p.start (suc h.committed)) xs)) ≡ length (to_pivot xs) =
-            sym (length-map without_commit_number (to_pivot (map (committed_under p.start (suc h.committed)) xs))) ∙ ap length (pivot_sealed p.start (suc h.committed) xs) ∙ length-map without_commit_number (to_pivot xs) in
+            sym (length-map (to_pivot (map (committed_under p.start (suc h.committed)) xs)) without_commit_number) ∙ ap length (pivot_sealed p.start (suc h.committed) xs) ∙ length-map (to_pivot xs) without_commit_number in
             roomy_alike xs (map (committed_under p.start (suc h.committed)) xs) at to
-            (omega (arith, parts xs, parts (map (committed_under p.start (suc h.committed)) xs), length-map (committed_under p.start (suc h.committed)) xs, to)) room
+            (omega (arith, parts xs, parts (map (committed_under p.start (suc h.committed)) xs), length-map xs (committed_under p.start (suc h.committed)), to)) room
 
 -- the alternative at an ordinal that is reached is the one that was asked for
 reached_alternative : (c : Choices) (k : ℕ) → alternative c (reached c k) ≡ alternative c k
@@ -194,7 +190,7 @@ module _ {S : Type 0} (M : Meaning S) (laws : Laws M) (s : S) where
   pub rooms_fresh : Rooms (fresh s)
   rooms_fresh = record {
     programs = (omega arith, (omega arith, (omega arith, (omega arith, (omega arith, (omega arith, (omega arith, (omega arith, tt))))))));
-    actives = λ n q e. absurd (none_some e);
+    actives = λ n q e. absurd (none-some _ e);
     budget = omega arith;
   }
 
@@ -204,11 +200,11 @@ module _ {S : Type 0} where
       let open-few = spread h.processes (filter (λ r. eqb r.commit 0) h.log)
       (λ r i. let (j, e) = kept_in (λ r. eqb r.commit 0) h.log r i in active r j (eqb-true r.commit 0 e))
       (λ n. each n (find n h.processes) refl) in
-      omega (arith, two_kinds h.log, open-few, rooms.budget)
+      omega (arith, length-filter_both (λ r. eqb r.commit 0) (λ r. not (eqb r.commit 0)) (λ r. refl) h.log, open-few, rooms.budget)
     where
       each : (n : ℕ) (o : Option Process) → find n h.processes ≡ o → length (own n (filter (λ r. eqb r.commit 0) h.log)) ≤ 32
       each n (Some q) e = omega (arith, fewer_own n (λ r. eqb r.commit 0) h.log, roomy_few (own n h.log) q.at (rooms.actives n q e))
-      each n None e = omega (arith, ap length (own_none n (filter (λ r. eqb r.commit 0) h.log) (λ r i f. let (j, c) = kept_in (λ r. eqb r.commit 0) h.log r i in let (q, at) = active r j (eqb-true r.commit 0 c) in none_some (sym e ∙ ap (λ k. find k h.processes) (sym f) ∙ at))))
+      each n None e = omega (arith, ap length (own_none n (filter (λ r. eqb r.commit 0) h.log) (λ r i f. let (j, c) = kept_in (λ r. eqb r.commit 0) h.log r i in let (q, at) = active r j (eqb-true r.commit 0 c) in none-some _ (sym e ∙ ap (λ k. find k h.processes) (sym f) ∙ at))))
 
 pub has_room : {S : Type 0} (M : Meaning S) → Laws M → (s : S) (es : List Event) → length (hall_after M s es).log ≤ 1024
 has_room M laws s es = subst (λ h. length h.log ≤ 1024) (sym (all_is M laws (fresh s) es)) (few (ends M (fresh s) (all_singles es)) (λ r i. ((sound_ends M laws s (fresh s) (sound_fresh M s) (all_singles es)).owners r i).active) (rooms_ends M laws s (fresh s) (sound_fresh M s) (rooms_fresh M laws s) (all_singles es)))

@@ -41,7 +41,7 @@ loose_some : (n : ℕ) (log : List Record) (z : Split) → returnable n log ≡ 
 loose_some n log z e = loose_from n log z (subst (LooseIs n log) e (loose_is n log))
 
 loose_none : (n : ℕ) (log : List Record) → returnable n log ≡ None → NoneToTakeBack n log
-loose_none n log e z t = Rattle.protocol.proofs.Processes.none_some (sym e ∙ loose_to n log z t)
+loose_none n log e z t = Rattle.std.proofs.lemmas.Option.none-some _ (sym e ∙ loose_to n log z t)
 
 none_loose : (n : ℕ) (log : List Record) → NoneToTakeBack n log → returnable n log ≡ None
 none_loose n log free = go (returnable n log) refl
