@@ -25,35 +25,10 @@ use Rattle.protocol.proofs.SoundKept.{sound_outcome}
 use Rattle.protocol.proofs.Books.{view, noted_is}
 use Rattle.protocol.proofs.StepsExact.{exact}
 
--- answers that the book notes nothing of
-abbrev Silent : Answer → Type 0
-Silent (Ok Loaded) = ⊥
-Silent (Ok (Opened n)) = ⊥
-Silent (Ok Cancelled) = Unit {0}
-Silent (Ok (Stepped (turns.Done x))) = ⊥
-Silent (Ok (Stepped turns.Failed)) = Unit {0}
-Silent (Ok (Stepped (turns.Wait n))) = Unit {0}
-Silent (Ok (Stepped (turns.Undone a))) = ⊥
-Silent (Ok (Stepped turns.Restarted)) = ⊥
-Silent (Ok (Stepped turns.Gone)) = ⊥
-Silent (Ok (Stepped (turns.Next k))) = ⊥
-Silent (Ok (Stepped (turns.Committed c))) = ⊥
-Silent (Err r) = Unit {0}
-
-on_step_silent : (b : Book) (o : Option Entry) (a : Answer) → Silent a → on_step b o a ≡ b
-on_step_silent b None a s = refl
-on_step_silent b (Some e) (Ok Loaded) s = absurd s
-on_step_silent b (Some e) (Ok (Opened n)) s = absurd s
-on_step_silent b (Some e) (Ok Cancelled) s = refl
-on_step_silent b (Some e) (Ok (Stepped (turns.Done x))) s = absurd s
-on_step_silent b (Some e) (Ok (Stepped turns.Failed)) s = refl
-on_step_silent b (Some e) (Ok (Stepped (turns.Wait n))) s = refl
-on_step_silent b (Some e) (Ok (Stepped (turns.Undone a))) s = absurd s
-on_step_silent b (Some e) (Ok (Stepped turns.Restarted)) s = absurd s
-on_step_silent b (Some e) (Ok (Stepped turns.Gone)) s = absurd s
-on_step_silent b (Some e) (Ok (Stepped (turns.Next k))) s = absurd s
-on_step_silent b (Some e) (Ok (Stepped (turns.Committed c))) s = absurd s
-on_step_silent b (Some e) (Err r) s = refl
+-- what is noted of no entry's step is noted of none
+unnoted : (b : Book) (o : Option Entry) (a : Answer) → ((e : Entry) → on_step b (Some e) a ≡ b) → on_step b o a ≡ b
+unnoted b None a silent = refl
+unnoted b (Some e) a silent = silent e
 
 -- a call that a scan record can be, with an answer that it can have
 pub data ScanCall : Call → Answer → Type 0 where
@@ -67,8 +42,8 @@ pub data ScanCall : Call → Answer → Type 0 where
 -- the letter and the number that are written say as much as the answer
 step_told : (b : Book) (n : ℕ) (t : Turn) (r : Request) → noted_if b (Some (stepping n)) (answer_told (written r (Ok (Stepped t))).letter (written r (Ok (Stepped t))).number) ≡ noted b (stepping n) (Ok (Stepped t))
 step_told b n (turns.Done x) r = refl
-step_told b n turns.Failed r = sym (on_step_silent b (seek n b.entries) (Ok (Stepped turns.Failed)) tt)
-step_told b n (turns.Wait m) r = sym (on_step_silent b (seek n b.entries) (Ok (Stepped (turns.Wait m))) tt)
+step_told b n turns.Failed r = sym (unnoted b (seek n b.entries) (Ok (Stepped turns.Failed)) (λ e. refl))
+step_told b n (turns.Wait m) r = sym (unnoted b (seek n b.entries) (Ok (Stepped (turns.Wait m))) (λ e. refl))
 step_told b n (turns.Undone a) r = refl
 step_told b n turns.Restarted r = refl
 step_told b n turns.Gone r = refl
@@ -80,7 +55,7 @@ told b c a open_served r = refl
 told b c a (step_served {n} {t}) r = step_told b n t r
 told b c a cancel_served r = refl
 told b c a open_refused r = refl
-told b c a (step_refused {n} {r = f}) r = sym (on_step_silent b (seek n b.entries) (Err f) tt)
+told b c a (step_refused {n} {r = f}) r = sym (unnoted b (seek n b.entries) (Err f) (λ e. refl))
 told b c a cancel_refused r = refl
 
 -- a record keeps its kind and its operand

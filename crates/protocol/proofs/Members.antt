@@ -1,5 +1,5 @@
 -- What stands in a list, and what stands before what.
-use Rattle.std.proofs.Common.{◌≡◌, Bool, true, false, cond, ◌&&◌, ◌||◌, ◌⊎◌, List, [], ◌∷◌, ◌++◌, map, filter, sym, refl, ap, ◌∙◌, inl, inr, ⊎_elim}
+use Rattle.std.proofs.Common.{◌≡◌, ℕ, zero, suc, get_or, Bool, true, false, cond, ◌&&◌, ◌||◌, ◌⊎◌, List, [], ◌∷◌, ◌++◌, map, filter, sym, refl, ap, ◌∙◌, inl, inr, ⊎_elim}
 use Rattle.std.proofs.lemmas.List.Folds.{list_any-append}
 use Rattle.std.proofs.lemmas.Bool.{false≢true, or_cases, or_parts, or_left, or_right, or_from}
 use Rattle.std.specs.List.{AllByRecursion, list_any}
@@ -14,6 +14,11 @@ module _ {X : Type 0} where
   pub all_from : (P : X → Type 0) (xs : List X) → ((x : X) → In x xs → P x) → AllByRecursion P xs
   all_from P [] f = tt
   all_from P (x ∷ xs) f = (f x (inl refl), all_from P xs (λ y i. f y (inr i)))
+
+  pub all_at : (P : X → Type 0) (d : X) → P d → (k : ℕ) (xs : List X) → AllByRecursion P xs → P (get_or xs k d)
+  all_at P d p k [] all = p
+  all_at P d p zero (x ∷ xs) all = all.0
+  all_at P d p (suc k) (x ∷ xs) all = all_at P d p k xs all.1
 
   pub pairs_from : (P : X → X → Type 0) (xs : List X) → ((a b : X) → Before a b xs → P a b) → Pairwise P xs
   pairs_from P [] f = tt

@@ -1,13 +1,13 @@
 -- Every call leaves room in the log.
 use Rattle.std.proofs.Common.{◌≡◌, ℕ, zero, suc, ◌+◌, ◌*◌, ◌≤◌, Bool, true, false, cond, not, ◌&&◌, eqb, ltb, leb, List, [], ◌∷◌, ◌++◌, map, length, get_or, is_some, Some, None, filter, Option, sym, refl, ap, ◌∙◌, subst, ⊎_elim, append-nil, arith}
 use Rattle.std.specs.List.{AllByRecursion}
-use Rattle.std.proofs.ByRecursion.{All-set}
 use Rattle.std.proofs.lemmas.Bool.{eqb-true, eq-eqb, ne_eqb, ltb-false, cases_eq, cond_both}
 use Rattle.std.specs.Bool.{then_some}
 use Rattle.std.specs.Option.{option_or}
 use Rattle.std.proofs.lemmas.Option.{none-some}
 use Rattle.std.proofs.lemmas.List.Filters.{length-filter_both}
 use Rattle.std.proofs.lemmas.List.{length-map, length_push}
+use Rattle.serial.proofs.Lists.{all_set}
 use Rattle.activity.specs.declared.Activity.{Activity}
 use Rattle.protocol.specs.declared.record.Record.{Record}
 use Rattle.protocol.specs.declared.answer.Refusal.TheVariants.{NoPlace, NotLoaded, Full, NoNumber, NoRoom}
@@ -26,7 +26,7 @@ use Rattle.protocol.specs.CallFunction.{against_open, loaded, opened, outcome, e
 use Rattle.protocol.proofs.CallCases.{cases}
 use Rattle.protocol.specs.Statements.{without_commit_number}
 use Rattle.protocol.proofs.Computed.{hall_after}
-use Rattle.protocol.proofs.Members.{In}
+use Rattle.protocol.proofs.Members.{In, all_at}
 use Rattle.protocol.proofs.Processes.{marked_keeps, from_map, from_changed, from_without, from_push}
 use Rattle.protocol.proofs.Objections.{openable}
 use Rattle.protocol.proofs.LastRecords.{NotOf, Loose, LooseIs, loose_is}
@@ -40,9 +40,7 @@ use Rattle.protocol.proofs.SoundKept.{sound_outcome, sound_ends, none_left}
 use Rattle.protocol.proofs.Promise.{all_is}
 
 fits_at : (k : ℕ) (xs : List (Option Body)) → AllByRecursion (λ o. size (body_of o) ≤ 32) xs → size (body_of (get_or xs k None)) ≤ 32
-fits_at k [] all = omega arith
-fits_at zero (x ∷ xs) all = all.0
-fits_at (suc k) (x ∷ xs) all = fits_at k xs all.1
+fits_at k xs all = all_at (λ o. size (body_of o) ≤ 32) None (omega arith) k xs all
 
 module _ {S : Type 0} where
   rooms_map : (h : Hall S) → Rooms h → (f : Process → Process) → ((q : Process) → (f q).start ≡ q.start) → ((n : ℕ) (q : Process) → find n h.processes ≡ Some q → Roomy (own n h.log) (f q).at) → Rooms (with_processes h (map f h.processes))
@@ -75,7 +73,7 @@ module _ {S : Type 0} where
 
   rooms_loaded : (h : Hall S) → Rooms h → (k : ℕ) (b : Body) → size b ≤ 32 → Rooms (loaded h k b).hall
   rooms_loaded h rooms k b small = record {
-    programs = All-set (λ o. size (body_of o) ≤ 32) h.programs k (Some b) small rooms.programs;
+    programs = all_set (λ o. size (body_of o) ≤ 32) h.programs k (Some b) small rooms.programs;
     actives = rooms.actives;
     budget = rooms.budget;
   }

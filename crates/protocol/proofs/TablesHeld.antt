@@ -5,7 +5,7 @@ use mathlib.Core.HLevel.{Unit-prop, ×_prop}
 use native.Mathlib.Bridge.{le_prop}
 use Rattle.serial.specs.Sorts.{Pairwise}
 use Rattle.std.specs.List.{AllByRecursion}
-use Rattle.std.proofs.lemmas.Bool.{eqb-true, eqb-false, true≢false, both_ways}
+use Rattle.std.proofs.lemmas.Bool.{eqb-true, eqb-false, true≢false, and_left, and_right, cases_Bool}
 use Rattle.std.proofs.lemmas.Option.{none-some}
 use Rattle.std.proofs.lemmas.List.{length_push}
 use Rattle.activity.specs.declared.Activity.{Activity}
@@ -25,10 +25,10 @@ use Rattle.protocol.specs.CallFunction.{outcome}
 use Rattle.protocol.specs.Room.{Bounded}
 use Rattle.protocol.specs.Held.{Held, Roomy}
 use Rattle.protocol.proofs.CallCases.{cases}
-use Rattle.protocol.proofs.Members.{In, in_push, in_more, in_map, any_none}
+use Rattle.protocol.proofs.Members.{In, in_push, in_more, in_map, none_any}
 use Rattle.protocol.proofs.Processes.{marked_keeps, from_map, to_map, from_changed, to_changed, find_without, from_without, from_push, to_push}
 use Rattle.protocol.proofs.Sealed.{sealed}
-use Rattle.protocol.proofs.LastRecords.{NotOf, Last, LooseIs, loose_is}
+use Rattle.protocol.proofs.LastRecords.{none_own, NotOf, Last, LooseIs, loose_is}
 use Rattle.protocol.proofs.Rooms.{rooms_by, rooms_done, few}
 use Rattle.protocol.proofs.Counts.{NextRoom, next_room}
 use Rattle.protocol.proofs.Bounds.{bounded_outcome}
@@ -167,14 +167,10 @@ module _ {S : Type 0} where
 
   -- a process that withdraws and has nothing to take back has no record
   none_left : (h : Hall S) → Owned h → (p : Process) → find p.start h.processes ≡ Some p → past_pivot p.standing ≡ false → returnable p.start h.log ≡ None → NotOf p.start h.log
-  none_left h o p is e none = ⊎_elim (λ x. x) (λ piv. absurd (both_ways (pivoted h.log p.start) (clear h.log (o.unpivoted p.start p is e)) piv)) (subst (LooseIs p.start h.log) none (loose_is p.start h.log))
+  none_left h o p is e none = none_own p.start h.log (none_any (λ r. owned p.start r && r.pivot) h.log clear) none
     where
-      and_false : (a b : Bool) → (a ≡ true → b ≡ false) → (a && b) ≡ false
-      and_false true b f = f refl
-      and_false false b f = refl
-
-      clear : (log : List Record) → ((r : Record) → In r log → r.start ≡ p.start → r.pivot ≡ false) → pivoted log p.start ≡ false
-      clear log f = Rattle.protocol.proofs.Members.none_any (λ r. owned p.start r && r.pivot) log (λ r i. and_false (owned p.start r) r.pivot (λ t. f r i (eqb-true r.start p.start t)))
+      clear : (r : Record) → In r h.log → (owned p.start r && r.pivot) ≡ false
+      clear r i = ⊎_elim (λ t. and_right _ _ (o.unpivoted p.start p is e r i (eqb-true r.start p.start t))) (λ f. and_left _ _ f) (cases_Bool (owned p.start r))
 
   owned_outcome : (M : Meaning S) (h : Hall S) → Bounded h → Owned h → (c : Call) → Owned (outcome M h c).hall
   owned_outcome M h b o = cases M h (λ c x. Owned x.hall) record {
