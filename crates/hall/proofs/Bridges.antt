@@ -1,9 +1,10 @@
 -- From loops over the tables to the rules' own words.
 use Rattle.std.proofs.Common.{◌≡◌, ℕ, suc, ◌+◌, Bool, true, false, cond, ◌&&◌, ◌||◌, eqb, List, [], ◌∷◌, ◌++◌, map, length, take, drop, Some, None, Option, sym, refl, ap, ◌∙◌, arith}
+use Rattle.std.specs.List.{list_any}
 use Rattle.protocol.specs.declared.record.Record.{Record}
 use Rattle.protocol.specs.declared.standing.Aim.TheVariants.{Restart}
 use Rattle.protocol.specs.declared.standing.Standing.TheVariants.{Withdrawing}
-use Rattle.protocol.specs.Log.{any, owned, own, from_pivot, Split, or_here, last_of, pivoted}
+use Rattle.protocol.specs.Log.{owned, own, from_pivot, Split, or_here, last_of, pivoted}
 use Rattle.protocol.specs.Hall as protocol
 use Rattle.protocol.specs.Hall.{find, least, lower, running, stand}
 use Rattle.protocol.specs.StepFunction as rules
@@ -88,7 +89,7 @@ own_pend : (n : ℕ) (log : List Record) → own n (drop (pend n log) log) ≡ f
 own_pend n [] = refl
 own_pend n (r ∷ rs) = go (pivoted rs n) (owned n r) r.pivot refl refl (sym (any_kept (λ x. x.pivot) (owned n) rs)) (own_pend n rs)
   where
-    go : (c t b : Bool) → owned n r ≡ t → r.pivot ≡ b → any (λ x. x.pivot) (own n rs) ≡ c → own n (drop (pend n rs) rs) ≡ from_pivot (own n rs) → own n (drop (cond c (suc (pend n rs)) (cond (t && b) 1 0)) (r ∷ rs)) ≡ from_pivot (cond t (r ∷ own n rs) (own n rs))
+    go : (c t b : Bool) → owned n r ≡ t → r.pivot ≡ b → list_any (λ x. x.pivot) (own n rs) ≡ c → own n (drop (pend n rs) rs) ≡ from_pivot (own n rs) → own n (drop (cond c (suc (pend n rs)) (cond (t && b) 1 0)) (r ∷ rs)) ≡ from_pivot (cond t (r ∷ own n rs) (own n rs))
     go true true b e f k ih = ih ∙ ap (λ v. cond v (from_pivot (own n rs)) (cond r.pivot (own n rs) (r ∷ own n rs))) (sym k)
     go true false b e f k ih = ih
     go false true true e f k ih = ap (λ v. cond v (own n rs) (r ∷ own n rs)) (sym f) ∙ ap (λ v. cond v (from_pivot (own n rs)) (cond r.pivot (own n rs) (r ∷ own n rs))) (sym k)

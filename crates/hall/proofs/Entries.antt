@@ -1,5 +1,5 @@
 -- Entries of the tables: a process written over or taken out, where one begins, a commit, and room for what comes next.
-use Rattle.std.proofs.Common.{◌≡◌, ℕ, zero, suc, ◌+◌, ◌<◌, Bool, List, [], ◌∷◌, ◌++◌, map, length, get_or, take, drop, set, Some, None, Option, sym, refl, ap, ◌∙◌, add-one, arith}
+use Rattle.std.proofs.Common.{◌≡◌, ℕ, zero, suc, ◌+◌, ◌<◌, Bool, List, [], ◌∷◌, ◌++◌, map, length, get_or, take, drop, set, Some, None, Ok, Option, sym, refl, ap, ◌∙◌, add-one, arith}
 use mathlib.Core.Logic.{∥∥₁_elim}
 use native.Mathlib.Bridge.{le_prop}
 use Rattle.std.specs.List.{remove}
@@ -10,7 +10,7 @@ use Rattle.program.specs.declared.cursor.Cursor.{Cursor}
 use Rattle.program.specs.Positions.{Position, outer}
 use Rattle.program.specs.Places.{tree, position}
 use Rattle.protocol.specs.declared.record.Record.{Record}
-use Rattle.protocol.specs.declared.answer.Answer.TheVariants.{Stepped}
+use Rattle.protocol.specs.declared.answer.Served.TheVariants.{Stepped}
 use Rattle.protocol.specs.declared.answer.Turn.TheVariants.{Committed}
 use Rattle.protocol.specs.Ahead.{next, plain, crossing}
 use Rattle.protocol.specs.Log.{committed_under}
@@ -65,11 +65,11 @@ first_is ps k r at = there (get_or ps k None) ∙ ap (λ x. outer (body_of x)) (
 pub commits_is : {S : Type 0} (h : protocol.Hall S) (p : protocol.Process) (o : Option ℕ) (h2 : protocol.Hall S) (l : List Record) (blocks marks : protocol.Process → Bool)
     → None ≡ o → l ≡ map (committed_under p.start (h.committed + 1)) h.log
     → h2 ≡ record { station = h.station; log = l; processes = without p.start h.processes; programs = h.programs; given = h.given; committed = h.committed }
-    → answered record { station = h2.station; log = h2.log; processes = h2.processes; programs = h2.programs; given = h2.given; committed = h.committed + 1 } (Stepped (Committed (h.committed + 1))) ≡ rules.waits h blocks marks (rules.committing h p) o
+    → answered record { station = h2.station; log = h2.log; processes = h2.processes; programs = h2.programs; given = h2.given; committed = h.committed + 1 } (Ok (Stepped (Committed (h.committed + 1)))) ≡ rules.waits h blocks marks (rules.committing h p) o
 commits_is {S} h p o h2 l blocks marks e1 e2 e3 =
-    ap (λ (x : protocol.Hall S). answered record { station = x.station; log = x.log; processes = x.processes; programs = x.programs; given = x.given; committed = h.committed + 1 } (Stepped (Committed (h.committed + 1)))) e3
-    ∙ ap (λ y. answered record { station = h.station; log = y; processes = without p.start h.processes; programs = h.programs; given = h.given; committed = h.committed + 1 } (Stepped (Committed (h.committed + 1)))) e2
-    ∙ ap (λ n. answered record { station = h.station; log = map (committed_under p.start n) h.log; processes = without p.start h.processes; programs = h.programs; given = h.given; committed = n } (Stepped (Committed n))) (add-one h.committed)
+    ap (λ (x : protocol.Hall S). answered record { station = x.station; log = x.log; processes = x.processes; programs = x.programs; given = x.given; committed = h.committed + 1 } (Ok (Stepped (Committed (h.committed + 1))))) e3
+    ∙ ap (λ y. answered record { station = h.station; log = y; processes = without p.start h.processes; programs = h.programs; given = h.given; committed = h.committed + 1 } (Ok (Stepped (Committed (h.committed + 1))))) e2
+    ∙ ap (λ n. answered record { station = h.station; log = map (committed_under p.start n) h.log; processes = without p.start h.processes; programs = h.programs; given = h.given; committed = n } (Ok (Stepped (Committed n)))) (add-one h.committed)
     ∙ ap (rules.waits h blocks marks (rules.committing h p)) e1
 
 -- room for what comes next

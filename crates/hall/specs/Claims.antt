@@ -1,10 +1,11 @@
 -- Who blocks a claim, and whom it marks.
 use Rattle.std.specs.Prelude.{ℕ, ◌+◌, Bool, true, false, cond, not, ◌&&◌, ◌||◌, List, [], ◌∷◌, drop, Some, None, Option, ◌==◌, nat_lt}
+use Rattle.std.specs.List.{list_any}
 use Rattle.protocol.specs.declared.record.Record.{Record}
 use Rattle.protocol.specs.declared.standing.Standing.{Standing}
 use Rattle.protocol.specs.declared.standing.Aim.TheVariants.{Restart}
 use Rattle.protocol.specs.declared.standing.Standing.TheVariants.{Withdrawing}
-use Rattle.protocol.specs.Log.{any, owned, own}
+use Rattle.protocol.specs.Log.{owned, own}
 use Rattle.protocol.specs.Hall as protocol
 use Rattle.protocol.specs.Hall.{retreating, past_pivot, running, lower}
 use Rattle.protocol.specs.StepFunction.{holds_conflict, holds_any_conflict, stands_before_conflict}
@@ -63,7 +64,7 @@ seek n i (q ∷ qs) = cond (q.start == n) (Some (i, q)) (seek n (i + 1) qs)
 
 -- a record is of the process n, and the process m has a later one in conflict
 abbrev pub follows : (ℕ → ℕ → Bool) → ℕ → ℕ → List Record → Bool
-follows conflict m a log = any (λ x. owned m x && conflict a x.activity.number) log
+follows conflict m a log = list_any (λ x. owned m x && conflict a x.activity.number) log
 
 abbrev pub leads : (ℕ → ℕ → Bool) → ℕ → ℕ → Record → List Record → Bool
 leads conflict n m r rs = owned n r && follows conflict m r.activity.number rs

@@ -1,6 +1,7 @@
 -- The tests of the rules, and what they tell.
 use Rattle.std.proofs.Common.{◌≡◌, ℕ, ◌<◌, ◌≤◌, Bool, true, false, cond, not, ◌&&◌, ◌||◌, eqb, ltb, ◌⊎◌, List, [], ◌∷◌, map, Some, None, Option, sym, refl, ap, ◌∙◌, subst, inl, inr, ⊎_elim, arith}
-use Rattle.std.proofs.lemmas.Bool.{eqb-true, eqb-false, eq-eqb, ne_eqb, true≢false, false≢true, both_ways, ltb-true, lt-ltb, or_left, or_right, or_cases, and_parts, and_from, cases_Bool}
+use Rattle.std.specs.List.{AllZip, list_any}
+use Rattle.std.proofs.lemmas.Bool.{eqb-true, eqb-false, eq-eqb, ne_eqb, true≢false, false≢true, both_ways, ltb-true, lt-ltb, or_left, or_right, or_cases, and_parts, and_from, cases_lt, not-true, not_from_false, false_from_ne_true}
 use Rattle.activity.specs.declared.Activity.{Activity}
 use Rattle.protocol.specs.declared.record.Record.{Record}
 use Rattle.protocol.specs.declared.standing.Standing.{Standing}
@@ -8,11 +9,11 @@ use Rattle.protocol.specs.declared.standing.Aim.TheVariants.{Restart}
 use Rattle.protocol.specs.declared.standing.Direction.TheVariants.{Forward, Back}
 use Rattle.protocol.specs.declared.standing.Standing.TheVariants.{Running, Withdrawing, PastPivot}
 use Rattle.station.specs.Meaning.{Meaning}
-use Rattle.protocol.specs.Log.{any, owned, own, Split, from_pivot}
+use Rattle.protocol.specs.Log.{owned, own, Split, from_pivot}
 use Rattle.protocol.specs.Hall.{Process, Hall, least, lower, stand, past_pivot, going_back, retreating, running}
 use Rattle.protocol.specs.StepFunction.{holds_conflict, stands_before_conflict, other, blocks_back, blocks_plain, blocks_pivot, blocks_alone, blocks_commit, everybody, nobody, pivot_marks, marked}
-use Rattle.protocol.specs.Relation.{In, Before, Each, Retreats, Past, InConflict, BlocksBack, BlocksPlain, BlocksPivot, BlocksCommit, Nobody, Smallest, Marks}
-use Rattle.protocol.proofs.Members.{some_any}
+use Rattle.protocol.specs.Relation.{In, Before, Retreats, Past, InConflict, BlocksBack, BlocksPlain, BlocksPivot, BlocksCommit, Nobody, Smallest, Marks}
+use Rattle.protocol.proofs.Members.{some_any, in_any}
 
 -- the test is true just where A holds
 pub record Tells (b : Bool) (A : Type 0) : Type 0 where
@@ -29,15 +30,7 @@ pub itself : (b : Bool) → Tells b (b ≡ true)
 itself b = record { holds = λ e. e; passes = λ e. e }
 
 pub opposite : {b : Bool} {A : Type 0} → Tells b A → Tells (not b) (A → ⊥)
-opposite {b} x = record { holds = λ e a. go b e (x.passes a); passes = λ n. back b (λ e. n (x.holds e)) }
-  where
-    go : (b : Bool) → not b ≡ true → b ≡ true → ⊥
-    go true e f = false≢true e
-    go false e f = false≢true f
-
-    back : (b : Bool) → (b ≡ true → ⊥) → not b ≡ true
-    back true f = absurd (f refl)
-    back false f = refl
+opposite {b} x = record { holds = λ e a. both_ways b (not-true b e) (x.passes a); passes = λ n. not_from_false b (false_from_ne_true b (λ e. n (x.holds e))) }
 
 pub equal : (a b : ℕ) → Tells (eqb a b) (a ≡ b)
 equal a b = record { holds = eqb-true a b; passes = eq-eqb a b }
@@ -46,12 +39,8 @@ pub less : (a b : ℕ) → Tells (ltb a b) (a < b)
 less a b = record { holds = ltb-true a b; passes = lt-ltb a b }
 
 -- some element passes
-pub some : {X : Type 0} (t : X → Bool) (A : X → Type 0) → ((x : X) → Tells (t x) (A x)) → (xs : List X) → Tells (any t xs) ((x : X) × In x xs × A x)
-some {X} t A tells xs = record { holds = holds xs; passes = λ (x, i, a). some_any t xs x i ((tells x).passes a) }
-  where
-    holds : (xs : List X) → any t xs ≡ true → (x : X) × In x xs × A x
-    holds [] e = absurd (false≢true e)
-    holds (x ∷ xs) e = ⊎_elim (λ p. (x, inl refl, (tells x).holds p)) (λ q. let (y, i, a) = holds xs q in (y, inr i, a)) (or_cases (t x) (any t xs) e)
+pub some : {X : Type 0} (t : X → Bool) (A : X → Type 0) → ((x : X) → Tells (t x) (A x)) → (xs : List X) → Tells (list_any t xs) ((x : X) × In x xs × A x)
+some t A tells xs = record { holds = λ e. let (x, i, p) = in_any t xs e in (x, i, (tells x).holds p); passes = λ (x, i, a). some_any t xs x i ((tells x).passes a) }
 
 -- the same with other words for it
 pub same_as : {b : Bool} {A B : Type 0} → Tells b A → (A → B) → (B → A) → Tells b B
@@ -140,16 +129,9 @@ module _ {S : Type 0} (M : Meaning S) where
           go false e (Some n) (w, i, x, f, m) = (w, inr i, x, f, λ q j y. elim j [ inl g ↦ absurd (both_ways (t q) (ap t g ∙ e) y) | inr k ↦ m q k y ])
           go true e None l = (p, inl refl, e, refl, λ q j y. elim j [ inl g ↦ omega (arith, ap (λ z. z.start) g) | inr k ↦ absurd (l q k y) ])
           go true e (Some n) (w, i, x, f, m) = ⊎_elim
-              (λ (low : p.start ≤ n). (p, inl refl, e, omega arith, λ q j y. elim j [ inl g ↦ omega (arith, ap (λ z. z.start) g) | inr k ↦ omega (arith, m q k y) ]))
               (λ (low : n < p.start). (w, inr i, x, omega (arith, f), λ q j y. elim j [ inl g ↦ omega (arith, ap (λ z. z.start) g) | inr k ↦ omega (arith, m q k y) ]))
-              (cases p.start n)
-            where
-              cases : (a b : ℕ) → (a ≤ b) ⊎ (b < a)
-              cases a b = by (lib.Dec.leb a b) refl
-                where
-                  by : (c : Bool) → lib.Dec.leb a b ≡ c → (a ≤ b) ⊎ (b < a)
-                  by true e = inl (Rattle.std.proofs.lemmas.Bool.leb-true a b e)
-                  by false e = inr (Rattle.std.proofs.lemmas.Bool.leb-false a b e)
+              (λ (low : p.start ≤ n). (p, inl refl, e, omega arith, λ q j y. elim j [ inl g ↦ omega (arith, ap (λ z. z.start) g) | inr k ↦ omega (arith, m q k y) ]))
+              (cases_lt n p.start)
 
       module _ (h : Hall S) where
         pub nobody_from : least t h.processes ≡ None → Nobody h p B
@@ -187,7 +169,7 @@ module _ {S : Type 0} (M : Meaning S) where
           go true e false f = inr ((λ o b r. both_ways (running q.standing) f ((runs q.standing).passes r)), refl)
           go false e c f = inr ((λ o b r. both_ways (t q) e ((tells q).passes (o, b))), refl)
 
-      pub marked_from : (ps : List Process) → Each (Marks p B) ps (map (marked t) ps)
+      pub marked_from : (ps : List Process) → AllZip (Marks p B) ps (map (marked t) ps)
       marked_from [] = tt
       marked_from (q ∷ qs) = (marks_from q, marked_from qs)
 
@@ -200,7 +182,7 @@ module _ {S : Type 0} (M : Meaning S) where
           go true x false y = refl
           go false x c y = refl
 
-      pub marked_to : (ps rs : List Process) → Each (Marks p B) ps rs → rs ≡ map (marked t) ps
+      pub marked_to : (ps rs : List Process) → AllZip (Marks p B) ps rs → rs ≡ map (marked t) ps
       marked_to [] [] e = refl
       marked_to [] (r ∷ rs) e = absurd e
       marked_to (q ∷ qs) [] e = absurd e

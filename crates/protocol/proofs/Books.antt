@@ -1,11 +1,12 @@
 -- The book says what the hall holds.
-use Rattle.std.proofs.Common.{◌≡◌, ℕ, suc, Bool, true, false, cond, not, ◌&&◌, eqb, List, [], ◌∷◌, ◌++◌, map, Some, None, filter, Option, refl, ap, ◌∙◌, inl, inr}
+use Rattle.std.proofs.Common.{◌≡◌, ℕ, suc, Bool, true, false, cond, not, ◌&&◌, eqb, List, [], ◌∷◌, ◌++◌, map, Some, None, filter, Option, refl, ap, ◌∙◌, inl, inr, Ok, Err}
 use Rattle.std.specs.Option.{option_map}
 use Rattle.std.proofs.lemmas.Bool.{ne_eqb}
+use Rattle.std.proofs.lemmas.Option.{none-some}
 use Rattle.activity.specs.declared.Activity.{Activity}
 use Rattle.protocol.specs.declared.record.Record.{Record}
 use Rattle.protocol.specs.declared.answer.Refusal.{Refusal}
-use Rattle.protocol.specs.declared.answer.Answer.TheVariants.{Stepped, Refused}
+use Rattle.protocol.specs.declared.answer.Served.TheVariants.{Stepped}
 use Rattle.protocol.specs.declared.answer.Turn.TheVariants as turns
 use Rattle.protocol.specs.declared.standing.Standing.{Standing}
 use Rattle.protocol.specs.declared.standing.Aim.TheVariants.{Restart, End}
@@ -22,7 +23,6 @@ use Rattle.protocol.specs.Call.{Call, loading, installing, opening, stepping, ca
 use Rattle.protocol.specs.CallFunction.{outcome}
 use Rattle.protocol.proofs.CallCases.{cases}
 use Rattle.protocol.specs.Book.{Entry, Book, seek, struck, moved, with_entries, keep, keep_next, on_step, noted}
-use Rattle.protocol.proofs.Processes.{none_some}
 use Rattle.protocol.proofs.LastRecords.{NotOf}
 use Rattle.protocol.proofs.Sound.{Sound}
 use Rattle.protocol.proofs.SoundKept.{none_left}
@@ -91,7 +91,7 @@ last_from_loose None z e = e
 last_from_loose (Some s) z e = go s.at.pivot e
   where
     go : (b : Bool) → cond b None (Some s) ≡ Some z → Some s ≡ Some z
-    go true f = absurd (none_some f)
+    go true f = absurd (none-some _ f)
     go false f = f
 
 module _ {S : Type 0} (M : Meaning S) (laws : Laws M) (s : S) where
@@ -113,7 +113,7 @@ module _ {S : Type 0} (M : Meaning S) (laws : Laws M) (s : S) where
   pub noted_is : (h : Hall S) → Sound M s h → (c : Call) → noted (view h) c (outcome M h c).answer ≡ view (outcome M h c).hall
   noted_is h sound = cases M h (Noted h) record {
     refused = refused;
-    waited = λ p is told n. on_its h p is (answered (with_processes h (map (marked told) h.processes)) (Stepped (turns.Wait n))) (ap (with_entries (view h)) (told_entries told h.processes));
+    waited = λ p is told n. on_its h p is (answered (with_processes h (map (marked told) h.processes)) (Ok (Stepped (turns.Wait n)))) (ap (with_entries (view h)) (told_entries told h.processes));
     loads = λ k b w e. refl;
     installs = λ k t b w e. refl;
     opens = λ k e. ap (with_entries (view h)) (pushed_is h.processes record { start = suc h.given; place = k; standing = Running; at = beginning h.programs k });
@@ -127,13 +127,13 @@ module _ {S : Type 0} (M : Meaning S) (laws : Laws M) (s : S) where
     turns = λ p is e none. on_its h p is (next_alternative h p) (ap (with_entries (view h)) (moved_is p.start (PastPivot Forward) (into (suc (alternative_of p.at)) p.at) h.processes));
   }
     where
-      refused : (c : Call) (r : Refusal) → Noted h c (answered h (Refused r))
+      refused : (c : Call) (r : Refusal) → Noted h c (answered h (Err r))
       refused (loading k b w) r = refl
       refused (installing k t b o w) r = refl
       refused (opening k) r = refl
       refused (stepping n) r = go (seek n (map entry_of h.processes))
         where
-          go : (o : Option Entry) → on_step (view h) o (Refused r) ≡ view h
+          go : (o : Option Entry) → on_step (view h) o (Err r) ≡ view h
           go None = refl
           go (Some e) = refl
       refused (cancelling n) r = refl

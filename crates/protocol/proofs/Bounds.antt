@@ -1,10 +1,12 @@
 -- Every call keeps numbers and tables within their bounds.
 use Rattle.std.proofs.Common.{◌≡◌, ℕ, suc, ◌+◌, ◌*◌, ◌<◌, ◌≤◌, Bool, true, false, cond, not, ◌&&◌, eqb, ltb, leb, List, [], ◌∷◌, ◌++◌, map, length, get_or, is_some, Some, None, filter, Option, sym, refl, subst, arith}
 use Rattle.std.specs.List.{AllByRecursion}
-use Rattle.std.proofs.ByRecursion.{All-weaker}
 use Rattle.std.proofs.lemmas.Bool.{leb-false}
+use Rattle.std.proofs.lemmas.List.{length-map, length_push}
 use Rattle.serial.specs.Sorts.{Pairwise}
-use Rattle.protocol.specs.Options.{when, else}
+use Rattle.serial.proofs.Lists.{all_weaker, all_map, all_kept, all_push, pairs_map, pairs_kept, pairs_push}
+use Rattle.std.specs.Bool.{then_some}
+use Rattle.std.specs.Option.{option_or}
 use Rattle.activity.specs.declared.Activity.{Activity}
 use Rattle.protocol.specs.declared.answer.Refusal.TheVariants.{NoPlace, NotLoaded, Full, NoNumber, NoRoom}
 use Rattle.protocol.specs.declared.standing.Aim.TheVariants.{Restart, End}
@@ -20,61 +22,25 @@ use Rattle.protocol.specs.CallFunction.{against_open, outcome, ends, all_singles
 use Rattle.protocol.specs.Log.{committed_records}
 use Rattle.protocol.proofs.Computed.{hall_after}
 use Rattle.protocol.specs.Room.{Bounded}
-use Rattle.protocol.proofs.Processes.{change_keeps, none_some}
+use Rattle.protocol.proofs.Processes.{change_keeps, marked_keeps}
+use Rattle.protocol.proofs.Objections.{openable}
 use Rattle.protocol.proofs.CallCases.{cases}
-use Rattle.protocol.proofs.Counts.{length-map, length_push, without_less}
+use Rattle.protocol.proofs.Counts.{without_less}
 use Rattle.protocol.proofs.Promise.{all_is}
 
 -- lists that were changed
 
-all_map : (P : Process → Type 0) (f : Process → Process) → ((q : Process) → P q → P (f q)) → (ps : List Process) → AllByRecursion P ps → AllByRecursion P (map f ps)
-all_map P f g [] h = tt
-all_map P f g (p ∷ ps) h = (g p h.0, all_map P f g ps h.1)
-
 rising_map : (f : Process → Process) → ((q : Process) → (f q).start ≡ q.start) → (ps : List Process) → Pairwise (λ a b. a.start < b.start) ps → Pairwise (λ a b. a.start < b.start) (map f ps)
-rising_map f keeps [] h = tt
-rising_map f keeps (p ∷ ps) h = (subst (λ n. AllByRecursion (λ b. n < b.start) (map f ps)) (sym (keeps p)) (all_map (λ b. p.start < b.start) f (λ q x. subst (λ n. p.start < n) (sym (keeps q)) x) ps h.0), rising_map f keeps ps h.1)
-
-all_kept : (P : Process → Type 0) (t : Process → Bool) (ps : List Process) → AllByRecursion P ps → AllByRecursion P (filter t ps)
-all_kept P t [] h = tt
-all_kept P t (p ∷ ps) h = go (t p) (all_kept P t ps h.1)
-  where
-    go : (b : Bool) → AllByRecursion P (filter t ps) → AllByRecursion P (cond b (p ∷ filter t ps) (filter t ps))
-    go true r = (h.0, r)
-    go false r = r
-
-rising_kept : (t : Process → Bool) (ps : List Process) → Pairwise (λ a b. a.start < b.start) ps → Pairwise (λ a b. a.start < b.start) (filter t ps)
-rising_kept t [] h = tt
-rising_kept t (p ∷ ps) h = go (t p) (rising_kept t ps h.1)
-  where
-    go : (b : Bool) → Pairwise (λ a b. a.start < b.start) (filter t ps) → Pairwise (λ a b. a.start < b.start) (cond b (p ∷ filter t ps) (filter t ps))
-    go true r = (all_kept (λ b. p.start < b.start) t ps h.0, r)
-    go false r = r
-
-all_push : (P : Process → Type 0) (ps : List Process) (q : Process) → AllByRecursion P ps → P q → AllByRecursion P (ps ++ q ∷ [])
-all_push P [] q h x = (x, tt)
-all_push P (p ∷ ps) q h x = (h.0, all_push P ps q h.1 x)
-
-rising_push : (ps : List Process) (q : Process) → Pairwise (λ a b. a.start < b.start) ps → AllByRecursion (λ p. p.start < q.start) ps → Pairwise (λ a b. a.start < b.start) (ps ++ q ∷ [])
-rising_push [] q h x = (tt, tt)
-rising_push (p ∷ ps) q h x = (all_push (λ b. p.start < b.start) ps q h.0 x.0, rising_push ps q h.1 x.1)
-
-else_none : {X : Type 0} (a b : Option X) → else a b ≡ None → (a ≡ None) × (b ≡ None)
-else_none None b e = (refl, e)
-else_none (Some x) b e = absurd (none_some (sym e))
-
-when_none : {X : Type 0} (b : Bool) (x : X) → when b x ≡ None → b ≡ false
-when_none true x e = absurd (none_some (sym e))
-when_none false x e = refl
+rising_map f keeps = pairs_map (λ a b. a.start < b.start) f (λ a b h. omega (arith, keeps a, keeps b, h))
 
 module _ {S : Type 0} where
   bounded_map : (h : Hall S) → Bounded h → (f : Process → Process) → ((q : Process) → (f q).start ≡ q.start) → Bounded (with_processes h (map f h.processes))
   bounded_map h b f keeps = record {
     given = b.given;
-    active = omega (arith, length-map f h.processes, b.active);
-    committed = omega (arith, length-map f h.processes, b.committed);
+    active = omega (arith, length-map h.processes f, b.active);
+    committed = omega (arith, length-map h.processes f, b.committed);
     rising = rising_map f keeps h.processes b.rising;
-    starts = all_map (λ q. q.start ≤ h.given) f (λ q x. subst (λ n. n ≤ h.given) (sym (keeps q)) x) h.processes b.starts;
+    starts = all_map (λ q. q.start ≤ h.given) f h.processes (all_weaker (λ q. q.start ≤ h.given) (λ q. (f q).start ≤ h.given) (λ q x. omega (arith, keeps q, x)) h.processes b.starts);
   }
 
   bounded_changed : (h : Hall S) → Bounded h → (n : ℕ) (f : Process → Process) → ((q : Process) → (f q).start ≡ q.start) → Bounded (with_processes h (changed n f h.processes))
@@ -90,40 +56,30 @@ module _ {S : Type 0} where
   pub bounded_outcome : (M : Meaning S) (h : Hall S) → Bounded h → (c : Call) → Bounded (outcome M h c).hall
   bounded_outcome M h b = cases M h (λ c o. Bounded o.hall) record {
     refused = λ c r. b;
-    waited = λ p is told n. bounded_map h b (marked told) (λ q. keeps told q (told q && running q.standing));
+    waited = λ p is told n. bounded_map h b (marked told) (marked_keeps told);
     installs = λ k t p w e. record { given = b.given; active = b.active; committed = b.committed; rising = b.rising; starts = b.starts };
     loads = λ k p w e. record { given = b.given; active = b.active; committed = b.committed; rising = b.rising; starts = b.starts };
     opens = opens;
     cancels = λ p is e. bounded_changed h b p.start (stand (Withdrawing End)) (λ q. refl);
     steps = λ p is g a to n free o e. bounded_done h b p false a to o;
     crosses = λ p is g a to n alone free o e. bounded_done h b p true a to o;
-    commits = λ p is g n free. let less = without_less p.start h.processes p is in record { given = b.given; active = omega (arith, less, b.active); committed = omega (arith, less, b.committed); rising = rising_kept (λ q. not (eqb q.start p.start)) h.processes b.rising; starts = all_kept (λ q. q.start ≤ h.given) (λ q. not (eqb q.start p.start)) h.processes b.starts };
+    commits = λ p is g n free. let less = without_less p.start h.processes p is in record { given = b.given; active = omega (arith, less, b.active); committed = omega (arith, less, b.committed); rising = pairs_kept (λ a b. a.start < b.start) (λ q. not (eqb q.start p.start)) h.processes b.rising; starts = all_kept (λ q. q.start ≤ h.given) (λ q. not (eqb q.start p.start)) h.processes b.starts };
     takes_back = λ p is x z l free. record { given = b.given; active = b.active; committed = b.committed; rising = b.rising; starts = b.starts };
     restarts = λ p is e none. bounded_changed h b p.start (move Running (beginning h.programs p.place)) (λ q. refl);
-    leaves = λ p is e none. let less = without_less p.start h.processes p is in record { given = b.given; active = omega (arith, less, b.active); committed = omega (arith, less, b.committed); rising = rising_kept (λ q. not (eqb q.start p.start)) h.processes b.rising; starts = all_kept (λ q. q.start ≤ h.given) (λ q. not (eqb q.start p.start)) h.processes b.starts };
+    leaves = λ p is e none. let less = without_less p.start h.processes p is in record { given = b.given; active = omega (arith, less, b.active); committed = omega (arith, less, b.committed); rising = pairs_kept (λ a b. a.start < b.start) (λ q. not (eqb q.start p.start)) h.processes b.rising; starts = all_kept (λ q. q.start ≤ h.given) (λ q. not (eqb q.start p.start)) h.processes b.starts };
     turns = λ p is e none. bounded_changed h b p.start (move (PastPivot Forward) (into (suc (alternative_of p.at)) p.at)) (λ q. refl);
   }
     where
-      keeps : (told : Process → Bool) (q : Process) (t : Bool) → (cond t (stand (Withdrawing Restart) q) q).start ≡ q.start
-      keeps told q true = refl
-      keeps told q false = refl
-
       opens : (k : ℕ) → against_open h k ≡ None → Bounded (Rattle.protocol.specs.CallFunction.opened h k).hall
       opens k e =
-          let room = when (ltb 1024 (length (committed_records h.log) + 32 * (length h.processes + 1))) NoRoom in
-          let numbers = when (leb 65535 h.given) NoNumber in
-          let full = when (leb 16 (length h.processes)) Full in
-          let loaded = when (not (is_some (get_or h.programs k None))) NotLoaded in
-          let (x, y) = else_none full (else numbers room) (else_none loaded (else full (else numbers room)) (else_none (when (ltb 7 k) NoPlace) (else loaded (else full (else numbers room))) e).1).1 in
-          let few : length h.processes < 16 = leb-false 16 (length h.processes) (when_none _ Full x) in
-          let low : h.given < 65535 = leb-false 65535 h.given (when_none _ NoNumber (else_none numbers room y).0) in
+          let free = openable h k e in
           let new = length_push h.processes record { start = suc h.given; place = k; standing = Running; at = beginning h.programs k } in
           record {
-            given = low;
-            active = omega (arith, new, few);
+            given = free.low;
+            active = omega (arith, new, free.few);
             committed = omega (arith, new, b.committed);
-            rising = rising_push h.processes record { start = suc h.given; place = k; standing = Running; at = beginning h.programs k } b.rising (All-weaker (λ q. q.start ≤ h.given) (λ q. q.start < suc h.given) (λ q x. omega arith) h.processes b.starts);
-            starts = all_push (λ q. q.start ≤ suc h.given) h.processes record { start = suc h.given; place = k; standing = Running; at = beginning h.programs k } (All-weaker (λ q. q.start ≤ h.given) (λ q. q.start ≤ suc h.given) (λ q x. omega arith) h.processes b.starts) (omega arith);
+            rising = pairs_push (λ a b. a.start < b.start) h.processes record { start = suc h.given; place = k; standing = Running; at = beginning h.programs k } b.rising (all_weaker (λ q. q.start ≤ h.given) (λ q. q.start < suc h.given) (λ q x. omega arith) h.processes b.starts);
+            starts = all_push (λ q. q.start ≤ suc h.given) h.processes record { start = suc h.given; place = k; standing = Running; at = beginning h.programs k } (all_weaker (λ q. q.start ≤ h.given) (λ q. q.start ≤ suc h.given) (λ q x. omega arith) h.processes b.starts) (omega arith);
           }
 
   bounded_ends : (M : Meaning S) (h : Hall S) → Bounded h → (cs : List Call) → Bounded (ends M h cs)

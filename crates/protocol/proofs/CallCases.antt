@@ -1,5 +1,5 @@
 -- What a call can come to, once for all proofs about calls.
-use Rattle.std.proofs.Common.{◌≡◌, ℕ, Bool, true, false, ◌&&◌, ◌⊎◌, List, map, Some, None, Option, refl, ap, ◌∙◌, subst, inl, inr}
+use Rattle.std.proofs.Common.{◌≡◌, ℕ, Bool, true, false, ◌&&◌, ◌⊎◌, List, map, Some, None, Option, refl, ap, ◌∙◌, subst, inl, inr, Ok, Err}
 use Rattle.activity.specs.declared.Activity.{Activity}
 use Rattle.protocol.specs.declared.answer.Refusal.{Refusal}
 use Rattle.protocol.specs.declared.answer.Refusal.TheVariants.{BadText, NoProcess, IsPastPivot, IsWithdrawing}
@@ -9,7 +9,7 @@ use Rattle.protocol.specs.declared.standing.Aim.TheVariants.{Restart, End}
 use Rattle.protocol.specs.declared.standing.Direction.TheVariants.{Forward, Back}
 use Rattle.protocol.specs.declared.standing.Standing.TheVariants.{Running, Withdrawing, PastPivot}
 use Rattle.protocol.specs.declared.answer.Turn.TheVariants.{Wait}
-use Rattle.protocol.specs.declared.answer.Answer.TheVariants.{Stepped, Refused, Cancelled}
+use Rattle.protocol.specs.declared.answer.Served.TheVariants.{Stepped, Cancelled}
 use Rattle.station.specs.Meaning.{Meaning}
 use Rattle.program.specs.Grammar.{Body, Yields}
 use Rattle.program.specs.Positions.{Position}
@@ -37,12 +37,12 @@ module _ {S : Type 0} (M : Meaning S) (h : Hall S) where
   Passes blocks = (n : ℕ) (q : Process) → find n h.processes ≡ Some q → blocks q ≡ false
 
   pub record Leaves (P : Call → Outcome S → Type 0) : Type 0 where
-    pub refused : (c : Call) (r : Refusal) → P c (answered h (Refused r))
-    pub waited : (p : Process) → Here p → (told : Process → Bool) (n : ℕ) → P (stepping p.start) (answered (with_processes h (map (marked told) h.processes)) (Stepped (Wait n)))
+    pub refused : (c : Call) (r : Refusal) → P c (answered h (Err r))
+    pub waited : (p : Process) → Here p → (told : Process → Bool) (n : ℕ) → P (stepping p.start) (answered (with_processes h (map (marked told) h.processes)) (Ok (Stepped (Wait n))))
     pub loads : (k : ℕ) (b : Body) (w : IsProgram b) → against_load M h k b ≡ None → P (loading k b w) (loaded h k b)
     pub installs : (k : ℕ) (t : List ℕ) (b : Body) (read : Yields t b) → against_load M h k b ≡ None → P (installing k t b None read) (loaded h k b)
     pub opens : (k : ℕ) → against_open h k ≡ None → P (opening k) (opened h k)
-    pub cancels : (p : Process) → Here p → p.standing ≡ Running → P (cancelling p.start) (answered (with_processes h (changed p.start (stand (Withdrawing End)) h.processes)) Cancelled)
+    pub cancels : (p : Process) → Here p → p.standing ≡ Running → P (cancelling p.start) (answered (with_processes h (changed p.start (stand (Withdrawing End)) h.processes)) (Ok Cancelled))
     pub steps : (p : Process) → Here p → Going p → (a : Activity) (to : Position) → next p.at ≡ plain a to → Passes (blocks_plain M.conflict h.log p a) → (o : Option (ℕ × S)) → M.performed h.station a ≡ o → P (stepping p.start) (performed h p false a to o)
     pub crosses : (p : Process) → Here p → Going p → (a : Activity) (to : Position) → next p.at ≡ crossing a to → Passes (blocks_alone p) → Passes (blocks_pivot M.conflict h.log p a) → (o : Option (ℕ × S)) → M.performed h.station a ≡ o → P (stepping p.start) (performed h p true a to o)
     pub commits : (p : Process) → Here p → Going p → next p.at ≡ nothing → Passes (blocks_commit M.conflict h.log p) → P (stepping p.start) (committing h p)

@@ -1,20 +1,21 @@
 -- Each call comes to exactly one thing: what the function gives is what the relation allows.
 use Rattle.std.proofs.Common.{◌≡◌, ℕ, suc, Bool, true, false, cond, not, eqb, ltb, leb, List, [], ◌∷◌, length, get_or, is_some, Some, None, Option, sym, refl, ap, ◌∙◌, subst, inl, inr, arith}
-use Rattle.std.specs.List.{AllByRecursion}
-use Rattle.std.proofs.lemmas.Bool.{false≢true, both_ways, not-true, not_from_false, ltb-true, ltb-false, leb-true, leb-false, lt-ltb, le-ltb, le-leb, lt-leb, eqb-true, eq-eqb, or_cases}
+use Rattle.std.specs.List.{AllByRecursion, list_any}
+use Rattle.std.proofs.lemmas.Bool.{false≢true, false_from_ne_true, both_ways, not-true, not_from_false, ltb-true, ltb-false, leb-true, leb-false, lt-ltb, le-ltb, le-leb, lt-leb, eqb-true, eq-eqb}
+use Rattle.std.proofs.lemmas.Option.{none-some, same_Some}
 use Rattle.station.specs.Meaning.{Meaning}
 use Rattle.program.specs.declared.command.Kind.{Kind}
 use Rattle.program.specs.declared.command.Kind.TheVariants.{Compensatable, Pivot, Retriable}
 use Rattle.program.specs.declared.command.Step.{Step}
 use Rattle.program.specs.Grammar.{Body, body_steps}
-use Rattle.protocol.specs.declared.answer.Answer.{Answer}
+use Rattle.protocol.specs.Answer.{Answer}
 use Rattle.protocol.specs.declared.answer.Refusal.{Refusal}
 use Rattle.protocol.specs.declared.answer.Refusal.TheVariants.{NoPlace, Busy, NoActivity, WrongKind, NotLoaded, Full, NoNumber, NoRoom, LongList}
 use Rattle.protocol.specs.declared.scan.Request.{Request}
 use Rattle.protocol.specs.declared.standing.Standing.{Standing}
 use Rattle.protocol.specs.declared.standing.Standing.TheVariants.{Running, Withdrawing, PastPivot}
-use Rattle.protocol.specs.Options.{when, else}
-use Rattle.protocol.specs.Log.{any}
+use Rattle.std.specs.Bool.{then_some}
+use Rattle.std.specs.Option.{option_or}
 use Rattle.protocol.specs.Hall.{Process, Hall, find, Outcome, answered}
 use Rattle.protocol.specs.StepFunction.{step_of}
 use Rattle.protocol.specs.Relation.{In}
@@ -23,26 +24,8 @@ use Rattle.protocol.specs.CallFunction.{fits, fault, faults, refused_or, loaded,
 use Rattle.protocol.specs.Letters.{call_of, written}
 use Rattle.protocol.specs.Comes.{OfKind, Fits, Unfit, no_such_activity, of_another_kind, further_on, Unused, IsLoaded, records_at_most, Comes, load_nowhere, load_busy, load_unfit, loads, install_no_program, installs, open_nowhere, open_not_loaded, open_full, open_no_number, open_no_room, opens, step_nobody, steps, cancel_nobody, cancel_past_pivot, cancel_withdrawing, cancels, WorksOne, known, unknown, Works, none_left, one_by_one, Scans, too_long, worked}
 use Rattle.protocol.specs.Exact.{CallsExactly, ScansExactly}
-use Rattle.protocol.proofs.Members.{some_any, any_none}
+use Rattle.protocol.proofs.Members.{some_any, in_any, any_none}
 use Rattle.protocol.proofs.StepsExact.{exact}
-
-in_any : {X : Type 0} (p : X → Bool) (xs : List X) → any p xs ≡ true → (x : X) × In x xs × (p x ≡ true)
-in_any p [] e = absurd (false≢true e)
-in_any p (x ∷ xs) e =
-    elim (or_cases (p x) (any p xs) e) [
-      | inl t ↦ (x, inl refl, t)
-      | inr more ↦ let (y, i, t) = in_any p xs more in (y, inr i, t)
-    ]
-
-not_true_false : (b : Bool) → (b ≡ true → ⊥) → b ≡ false
-not_true_false true f = absurd (f refl)
-not_true_false false f = refl
-
-some_is : {X : Type 0} {x y : X} → Some x ≡ Some y → x ≡ y
-some_is {X} {x} {y} e = let f : x ≡ y = cc in f
-
-no_some : {X : Type 0} {x : X} → Some x ≡ None → ⊥
-no_some {X} {x} e = false≢true (sym (ap is_some e))
 
 module _ {S : Type 0} (M : Meaning S) where
   -- ---- which steps fit
@@ -58,11 +41,11 @@ module _ {S : Type 0} (M : Meaning S) where
 
   -- a step's two tests, and what is said of the steps after it
   abbrev checked : ℕ → Bool → Bool → Option Refusal → Option Refusal
-  checked i absent fit rest = else (else (when absent (NoActivity i)) (when (not fit) (WrongKind i))) rest
+  checked i absent fit rest = option_or (option_or (then_some absent (NoActivity i)) (then_some (not fit) (WrongKind i))) rest
 
   step_fits : (i : ℕ) (s : Step) (absent fit : Bool) → leb M.activities s.activity.number ≡ absent → fits M s.kind s.activity.number ≡ fit → (rest : Option Refusal) → checked i absent fit rest ≡ None → Fits M s × (rest ≡ None)
-  step_fits i s true fit e f rest g = absurd (no_some g)
-  step_fits i s false false e f rest g = absurd (no_some g)
+  step_fits i s true fit e f rest g = absurd (none-some _ (sym g))
+  step_fits i s false false e f rest g = absurd (none-some _ (sym g))
   step_fits i s false true e f rest g = (record { exists = leb-false M.activities s.activity.number e; kind = kind_fits s.kind s.activity.number f }, g)
 
   all_fit : (i : ℕ) (ss : List Step) → faults M i ss ≡ None → AllByRecursion (Fits M) ss
@@ -72,15 +55,15 @@ module _ {S : Type 0} (M : Meaning S) where
       (here, all_fit (suc i) ss rest)
 
   first_unfit : (i : ℕ) (ss : List Step) (r : Refusal) → faults M i ss ≡ Some r → Unfit M i ss r
-  first_unfit i [] r e = absurd (no_some (sym e))
+  first_unfit i [] r e = absurd (none-some _ e)
   first_unfit i (s ∷ ss) r e = go (first_unfit (suc i) ss r) (leb M.activities s.activity.number) (fits M s.kind s.activity.number) refl refl e
     where
       go : (faults M (suc i) ss ≡ Some r → Unfit M (suc i) ss r) → (absent fit : Bool) → leb M.activities s.activity.number ≡ absent → fits M s.kind s.activity.number ≡ fit → checked i absent fit (faults M (suc i) ss) ≡ Some r → Unfit M i (s ∷ ss) r
-      go more true fit x y g = subst (Unfit M i (s ∷ ss)) (some_is g) (no_such_activity (leb-true M.activities s.activity.number x))
-      go more false false x y g = subst (Unfit M i (s ∷ ss)) (some_is g) (of_another_kind (leb-false M.activities s.activity.number x) (λ k. both_ways (fits M s.kind s.activity.number) y (fits_kind s.kind s.activity.number k)))
+      go more true fit x y g = subst (Unfit M i (s ∷ ss)) (same_Some _ _ g) (no_such_activity (leb-true M.activities s.activity.number x))
+      go more false false x y g = subst (Unfit M i (s ∷ ss)) (same_Some _ _ g) (of_another_kind (leb-false M.activities s.activity.number x) (λ k. both_ways (fits M s.kind s.activity.number) y (fits_kind s.kind s.activity.number k)))
       go more false true x y g = further_on (record { exists = leb-false M.activities s.activity.number x; kind = kind_fits s.kind s.activity.number y }) (more g)
 
-  fit_checked : (i : ℕ) (s : Step) (rest : Option Refusal) → Fits M s → else (fault M i s) rest ≡ rest
+  fit_checked : (i : ℕ) (s : Step) (rest : Option Refusal) → Fits M s → option_or (fault M i s) rest ≡ rest
   fit_checked i s rest f = λ j. checked i (lt-leb M.activities s.activity.number f.exists j) (fits_kind s.kind s.activity.number f.kind j) rest
 
   no_faults : (i : ℕ) (ss : List Step) → AllByRecursion (Fits M) ss → faults M i ss ≡ None
@@ -90,7 +73,7 @@ module _ {S : Type 0} (M : Meaning S) where
   faulted : (i : ℕ) (ss : List Step) (r : Refusal) → Unfit M i ss r → faults M i ss ≡ Some r
   faulted i ss r (no_such_activity {s = s} {ss = rest} above) = λ j. checked i (le-leb M.activities s.activity.number above j) (fits M s.kind s.activity.number) (faults M (suc i) rest)
   faulted i ss r (of_another_kind {s = s} {ss = rest} below other) =
-      let unfit : fits M s.kind s.activity.number ≡ false = not_true_false (fits M s.kind s.activity.number) (λ e. other (kind_fits s.kind s.activity.number e)) in
+      let unfit : fits M s.kind s.activity.number ≡ false = false_from_ne_true (fits M s.kind s.activity.number) (λ e. other (kind_fits s.kind s.activity.number e)) in
       λ j. checked i (lt-leb M.activities s.activity.number below j) (unfit j) (faults M (suc i) rest)
   faulted i ss r (further_on {s = s} {ss = rest} f u) = fit_checked i s (faults M (suc i) rest) f ∙ faulted (suc i) rest r u
 
@@ -104,22 +87,22 @@ module _ {S : Type 0} (M : Meaning S) where
       runs_there q = eqb q.place k
 
       abbrev load_by : Bool → Bool → Option Refusal → Outcome S
-      load_by far busy unfit = refused_or h (else (when far NoPlace) (else (when busy Busy) unfit)) (loaded h k b)
+      load_by far busy unfit = refused_or h (option_or (then_some far NoPlace) (option_or (then_some busy Busy) unfit)) (loaded h k b)
 
-      unused : any runs_there h.processes ≡ false → Unused M h k
+      unused : list_any runs_there h.processes ≡ false → Unused M h k
       unused e q i at = both_ways (runs_there q) (any_none runs_there h.processes e q i) (eq-eqb q.place k at)
 
-      used_not : Unused M h k → any runs_there h.processes ≡ false
-      used_not u = not_true_false (any runs_there h.processes) (λ e. let (q, i, t) = in_any runs_there h.processes e in u q i (eqb-true q.place k t))
+      used_not : Unused M h k → list_any runs_there h.processes ≡ false
+      used_not u = false_from_ne_true (list_any runs_there h.processes) (λ e. let (q, i, t) = in_any runs_there h.processes e in u q i (eqb-true q.place k t))
 
-      load_allowed : (far busy : Bool) (unfit : Option Refusal) → ltb 7 k ≡ far → any runs_there h.processes ≡ busy → faults M 0 (body_steps b) ≡ unfit → Allowed (loading k b w) (load_by far busy unfit)
+      load_allowed : (far busy : Bool) (unfit : Option Refusal) → ltb 7 k ≡ far → list_any runs_there h.processes ≡ busy → faults M 0 (body_steps b) ≡ unfit → Allowed (loading k b w) (load_by far busy unfit)
       load_allowed true busy unfit e f g = load_nowhere (ltb-true 7 k e)
       load_allowed false true unfit e f g = let (q, i, t) = in_any runs_there h.processes f in load_busy q (ltb-false 7 k e) i (eqb-true q.place k t)
       load_allowed false false (Some r) e f g = load_unfit (ltb-false 7 k e) (unused f) (first_unfit 0 (body_steps b) r g)
       load_allowed false false None e f g = loads (ltb-false 7 k e) (unused f) (all_fit 0 (body_steps b) g)
 
-      load_only : (g : Hall S) (a : Answer) → Comes M h (loading k b w) g a → answered g a ≡ load_by (ltb 7 k) (any runs_there h.processes) (faults M 0 (body_steps b))
-      load_only g a (load_nowhere far) = λ j. load_by (sym (lt-ltb 7 k far) j) (any runs_there h.processes) (faults M 0 (body_steps b))
+      load_only : (g : Hall S) (a : Answer) → Comes M h (loading k b w) g a → answered g a ≡ load_by (ltb 7 k) (list_any runs_there h.processes) (faults M 0 (body_steps b))
+      load_only g a (load_nowhere far) = λ j. load_by (sym (lt-ltb 7 k far) j) (list_any runs_there h.processes) (faults M 0 (body_steps b))
       load_only g a (load_busy q near i at) = λ j. load_by (sym (le-ltb 7 k near) j) (sym (some_any runs_there h.processes q i (eq-eqb q.place k at)) j) (faults M 0 (body_steps b))
       load_only g a (load_unfit {r = r} near u f) = λ j. load_by (sym (le-ltb 7 k near) j) (sym (used_not u) j) (sym (faulted 0 (body_steps b) r f) j)
       load_only g a (loads near u f) = λ j. load_by (sym (le-ltb 7 k near) j) (sym (used_not u) j) (sym (no_faults 0 (body_steps b) f) j)
@@ -131,7 +114,7 @@ module _ {S : Type 0} (M : Meaning S) where
 
       abbrev open_by : Bool → Bool → Bool → Bool → Bool → Outcome S
       open_by far there full last over =
-          refused_or h (else (when far NoPlace) (else (when (not there) NotLoaded) (else (when full Full) (else (when last NoNumber) (when over NoRoom))))) (opened h k)
+          refused_or h (option_or (then_some far NoPlace) (option_or (then_some (not there) NotLoaded) (option_or (then_some full Full) (option_or (then_some last NoNumber) (then_some over NoRoom))))) (opened h k)
 
       is_loaded : (o : Option Body) → is_some o ≡ true → (b : Body) × (o ≡ Some b)
       is_loaded None e = absurd (false≢true e)
@@ -141,7 +124,7 @@ module _ {S : Type 0} (M : Meaning S) where
       loaded_some (b, e) = ap is_some e
 
       not_loaded : (IsLoaded M h k → ⊥) → is_some at_place ≡ false
-      not_loaded f = not_true_false (is_some at_place) (λ e. f (is_loaded at_place e))
+      not_loaded f = false_from_ne_true (is_some at_place) (λ e. f (is_loaded at_place e))
 
       open_allowed : (far there full last over : Bool) → ltb 7 k ≡ far → is_some at_place ≡ there → leb 16 (length h.processes) ≡ full → leb 65535 h.given ≡ last → ltb 1024 (records_at_most M h) ≡ over → Allowed (opening k) (open_by far there full last over)
       open_allowed true there full last over e f g n r = open_nowhere (ltb-true 7 k e)
@@ -194,8 +177,8 @@ module _ {S : Type 0} (M : Meaning S) where
       cancel_only g a (cancels {p = p} e f) = ap (cancel_by h p) (sym f) ∙ ap (cancel_of h) (sym e)
 
     allowed : (c : Call) → Allowed c (outcome M h c)
-    allowed (loading k b w) = load_allowed k b w (ltb 7 k) (any (runs_there k b w) h.processes) (faults M 0 (body_steps b)) refl refl refl
-    allowed (installing k t b None w) = installs (load_allowed k b (t, w) (ltb 7 k) (any (runs_there k b (t, w)) h.processes) (faults M 0 (body_steps b)) refl refl refl)
+    allowed (loading k b w) = load_allowed k b w (ltb 7 k) (list_any (runs_there k b w) h.processes) (faults M 0 (body_steps b)) refl refl refl
+    allowed (installing k t b None w) = installs (load_allowed k b (t, w) (ltb 7 k) (list_any (runs_there k b (t, w)) h.processes) (faults M 0 (body_steps b)) refl refl refl)
     allowed (installing k t b (Some e) w) = install_no_program
     allowed (opening k) = open_allowed k (ltb 7 k) (is_some (at_place k)) (full_now k) (last_now k) (over_now k) refl refl refl refl refl
     allowed (stepping n) = step_allowed n (find n h.processes) refl

@@ -1,60 +1,44 @@
 -- How many records there are.
 use Rattle.std.proofs.Common.{◌≡◌, ℕ, zero, suc, ◌+◌, ◌*◌, ◌≤◌, Bool, true, false, cond, not, ◌||◌, eqb, List, [], ◌∷◌, ◌++◌, map, length, Some, None, filter, Option, sym, refl, ap, ◌∙◌, subst, inl, inr, arith, length-append}
-use Rattle.std.proofs.lemmas.Bool.{eqb-true, eqb-false, eq-eqb, ne_eqb, true≢false, false≢true, or_parts, cases_Bool}
+use Rattle.std.specs.List.{list_any}
+use Rattle.std.proofs.lemmas.Bool.{or_right, eqb-true, eqb-false, eq-eqb, ne_eqb, true≢false, false≢true, or_parts, cases_Bool}
+use Rattle.std.proofs.lemmas.Option.{none-some}
+use Rattle.std.proofs.lemmas.List.{length_push}
+use Rattle.std.proofs.lemmas.List.Elements.{filter-append}
 use Rattle.activity.specs.declared.Activity.{Activity}
 use Rattle.protocol.specs.declared.record.Record.{Record}
 use Rattle.program.specs.Grammar.{finish, compensatable, pivot, Choices, row, or_else, body_steps, choices_steps, row_steps}
 use Rattle.program.specs.Positions.{in_body, in_row, Position, outer, inner, alternative}
 use Rattle.protocol.specs.Ahead.{Next, nothing, plain, crossing, next}
-use Rattle.protocol.specs.Log.{any, Split, owned, own, removed, last_of, unless_pivot, returnable, to_pivot, from_pivot, committed_under, committed_records}
+use Rattle.protocol.specs.Log.{Split, owned, own, removed, last_of, unless_pivot, returnable, to_pivot, from_pivot, committed_under, committed_records}
 use Rattle.protocol.specs.Hall.{Process, find, without}
 pub use Rattle.protocol.specs.Held.{size, choice_size, rest_size, Roomy}
-use Rattle.protocol.proofs.Members.{In}
-use Rattle.protocol.proofs.Processes.{none_some}
+use Rattle.protocol.proofs.Members.{In, some_any, in_here}
 use Rattle.protocol.proofs.LastRecords.{Last, LastIs, last_is}
-use Rattle.protocol.proofs.PivotsStay.{kept_append, pivot_plain, own_none}
-
-pub length-map : {X Y : Type 0} (f : X → Y) (xs : List X) → length (map f xs) ≡ length xs
-length-map f [] = refl
-length-map f (x ∷ xs) = ap suc (length-map f xs)
-
-pub length_push : {X : Type 0} (xs : List X) (x : X) → length (xs ++ x ∷ []) ≡ suc (length xs)
-length_push [] x = refl
-length_push (y ∷ ys) x = ap suc (length_push ys x)
+use Rattle.protocol.proofs.PivotsStay.{pivot_plain, own_none}
 
 -- up to the last pivot, and after it
 
-to_none : (xs : List Record) → any (λ x. x.pivot) xs ≡ false → to_pivot xs ≡ []
+to_none : (xs : List Record) → list_any (λ x. x.pivot) xs ≡ false → to_pivot xs ≡ []
 to_none [] e = refl
 to_none (x ∷ xs) e = ap (λ b. cond b (x ∷ to_pivot xs) []) e
 
 pub parts : (xs : List Record) → length (to_pivot xs) + length (from_pivot xs) ≡ length xs
 parts [] = refl
-parts (x ∷ xs) = go x.pivot (any (λ r. r.pivot) xs) refl (parts xs)
+parts (x ∷ xs) = go x.pivot (list_any (λ r. r.pivot) xs) refl (parts xs)
   where
-    go : (b c : Bool) → any (λ r. r.pivot) xs ≡ c → length (to_pivot xs) + length (from_pivot xs) ≡ length xs → length (cond (b || c) (x ∷ to_pivot xs) []) + length (cond c (from_pivot xs) (cond b xs (x ∷ xs))) ≡ suc (length xs)
+    go : (b c : Bool) → list_any (λ r. r.pivot) xs ≡ c → length (to_pivot xs) + length (from_pivot xs) ≡ length xs → length (cond (b || c) (x ∷ to_pivot xs) []) + length (cond c (from_pivot xs) (cond b xs (x ∷ xs))) ≡ suc (length xs)
     go true true e h = omega arith
     go false true e h = omega arith
     go true false e h = omega (arith, ap length (to_none xs e))
     go false false e h = omega arith
 
 -- a pivot at the end
-any_last : (xs : List Record) (r : Record) → r.pivot ≡ true → any (λ x. x.pivot) (xs ++ r ∷ []) ≡ true
-any_last [] r e = ap (λ b. b || false) e
-any_last (x ∷ xs) r e = go x.pivot (any_last xs r e)
-  where
-    go : (b : Bool) → any (λ x. x.pivot) (xs ++ r ∷ []) ≡ true → (b || any (λ x. x.pivot) (xs ++ r ∷ [])) ≡ true
-    go true h = refl
-    go false h = h
-
 pub to_last : (xs : List Record) (r : Record) → r.pivot ≡ true → to_pivot (xs ++ r ∷ []) ≡ xs ++ r ∷ []
 to_last [] r e = ap (λ b. cond (b || false) (r ∷ []) []) e
-to_last (x ∷ xs) r e = go x.pivot (any (λ y. y.pivot) (xs ++ r ∷ [])) (any_last xs r e) (to_last xs r e)
-  where
-    go : (b c : Bool) → c ≡ true → to_pivot (xs ++ r ∷ []) ≡ xs ++ r ∷ [] → cond (b || c) (x ∷ to_pivot (xs ++ r ∷ [])) [] ≡ x ∷ (xs ++ r ∷ [])
-    go true c f h = ap (λ l. x ∷ l) h
-    go false true f h = ap (λ l. x ∷ l) h
-    go false false f h = absurd (false≢true f)
+to_last (x ∷ xs) r e =
+    ap (λ b. cond b (x ∷ to_pivot (xs ++ r ∷ [])) []) (or_right x.pivot _ (some_any (λ y. y.pivot) (xs ++ r ∷ []) r (in_here xs r []) e))
+    ∙ ap (λ l. x ∷ l) (to_last xs r e)
 
 -- how many records a position leaves room for
 
@@ -104,21 +88,21 @@ next_room mine (inner c k (in_row (s ∷ ss))) h = λ r e. (omega (arith, ap len
 -- own records, in a log that changed
 
 pub own_pushed : (n : ℕ) (log : List Record) (r : Record) → own n (log ++ r ∷ []) ≡ own n log ++ cond (owned n r) (r ∷ []) []
-own_pushed n log r = kept_append (owned n) log (r ∷ [])
+own_pushed n log r = filter-append (owned n) log (r ∷ [])
 
 pub own_taken : (n : ℕ) (log : List Record) (z : Split) → Last n log z → own n log ≡ own n z.before ++ z.at ∷ []
 own_taken n log z l =
-    ap (own n) l.whole ∙ kept_append (owned n) z.before (z.at ∷ z.after)
+    ap (own n) l.whole ∙ filter-append (owned n) z.before (z.at ∷ z.after)
     ∙ ap (λ b. own n z.before ++ cond b (z.at ∷ own n z.after) (own n z.after)) (eq-eqb z.at.start n l.owner)
     ∙ ap (λ t. own n z.before ++ z.at ∷ t) (own_none n z.after l.after)
 
 pub own_left : (n : ℕ) (log : List Record) (z : Split) → Last n log z → own n (removed z) ≡ own n z.before
-own_left n log z l = kept_append (owned n) z.before z.after ∙ ap (λ t. own n z.before ++ t) (own_none n z.after l.after) ∙ mathlib.Core.List.append-nil (own n z.before)
+own_left n log z l = filter-append (owned n) z.before z.after ∙ ap (λ t. own n z.before ++ t) (own_none n z.after l.after) ∙ mathlib.Core.List.append-nil (own n z.before)
 
 pub own_others : (m n : ℕ) (log : List Record) (z : Split) → Last m log z → (n ≡ m → ⊥) → own n (removed z) ≡ own n log
 own_others m n log z l off =
-    kept_append (owned n) z.before z.after
-    ∙ sym (ap (own n) l.whole ∙ kept_append (owned n) z.before (z.at ∷ z.after) ∙ ap (λ b. own n z.before ++ cond b (z.at ∷ own n z.after) (own n z.after)) (ne_eqb z.at.start n (λ e. off (sym e ∙ l.owner))))
+    filter-append (owned n) z.before z.after
+    ∙ sym (ap (own n) l.whole ∙ filter-append (owned n) z.before (z.at ∷ z.after) ∙ ap (λ b. own n z.before ++ cond b (z.at ∷ own n z.after) (own n z.after)) (ne_eqb z.at.start n (λ e. off (sym e ∙ l.owner))))
 
 -- with nothing to take back there is nothing after the last pivot
 pub none_loose : (n : ℕ) (log : List Record) → returnable n log ≡ None → length (from_pivot (own n log)) ≡ 0
@@ -133,26 +117,12 @@ none_loose n log e = go (last_of n log) (last_is n log) e
           where
             last_zero : length (from_pivot (own n z.before ++ z.at ∷ [])) ≡ 0
             last_zero = omega (arith, parts (own n z.before ++ z.at ∷ []), ap length (to_last (own n z.before) z.at p))
-        by false p g = absurd (none_some (sym g))
+        by false p g = absurd (none-some _ (sym g))
 
 -- committed records
 
-pub closed : List Record → ℕ
-closed log = length (committed_records log)
-
-open_records : List Record → List Record
-open_records log = filter (λ r. eqb r.commit 0) log
-
-pub two_kinds : (log : List Record) → length log ≡ length (committed_records log) + length (filter (λ r. eqb r.commit 0) log)
-two_kinds [] = refl
-two_kinds (r ∷ rs) = go (eqb r.commit 0) (two_kinds rs)
-  where
-    go : (b : Bool) → length rs ≡ length (committed_records rs) + length (filter (λ r. eqb r.commit 0) rs) → suc (length rs) ≡ length (cond (not b) (r ∷ committed_records rs) (committed_records rs)) + length (cond b (r ∷ filter (λ r. eqb r.commit 0) rs) (filter (λ r. eqb r.commit 0) rs))
-    go true h = omega arith
-    go false h = omega arith
-
 pub closed_push : (log : List Record) (r : Record) → r.commit ≡ 0 → length (committed_records (log ++ r ∷ [])) ≡ length (committed_records log)
-closed_push log r e = ap length (kept_append (λ x. not (eqb x.commit 0)) log (r ∷ [])) ∙ ap (λ b. length (committed_records log ++ cond (not b) (r ∷ []) [])) (eq-eqb r.commit 0 e) ∙ ap length (mathlib.Core.List.append-nil (committed_records log))
+closed_push log r e = ap length (filter-append (λ x. not (eqb x.commit 0)) log (r ∷ [])) ∙ ap (λ b. length (committed_records log ++ cond (not b) (r ∷ []) [])) (eq-eqb r.commit 0 e) ∙ ap length (mathlib.Core.List.append-nil (committed_records log))
 
 pub closed_less : (xs : List Record) (r : Record) (ys : List Record) → length (committed_records (xs ++ ys)) ≤ length (committed_records (xs ++ r ∷ ys))
 closed_less [] r ys = go (not (eqb r.commit 0))
@@ -198,7 +168,7 @@ closed_sealed n c (r ∷ rs) = go (owned n r) (closed_sealed n c rs)
 -- processes
 
 pub without_less : (n : ℕ) (ps : List Process) (p : Process) → find n ps ≡ Some p → suc (length (without n ps)) ≤ length ps
-without_less n [] p e = absurd (none_some e)
+without_less n [] p e = absurd (none-some _ e)
 without_less n (q ∷ qs) p e = go (eqb q.start n) e (without_less n qs p)
   where
     at_most : (xs : List Process) → length (without n xs) ≤ length xs
@@ -243,7 +213,7 @@ fewer_own n t (x ∷ xs) = go (t x) (owned n x) refl (fewer_own n t xs)
 
 pub spread : (ps : List Process) (xs : List Record) → ((r : Record) → In r xs → (q : Process) × (find r.start ps ≡ Some q)) → ((n : ℕ) → length (own n xs) ≤ 32) → length xs ≤ 32 * length ps
 spread [] [] own-ed few = omega arith
-spread [] (x ∷ xs) own-ed few = absurd (none_some (own-ed x (inl refl)).1)
+spread [] (x ∷ xs) own-ed few = absurd (none-some _ (own-ed x (inl refl)).1)
 spread (p ∷ ps) xs own-ed few =
     let rest = filter (λ r. not (owned p.start r)) xs in
     let h : length rest ≤ 32 * length ps = spread ps rest (λ r i. later r i) (λ n. omega (arith, fewer_own n (λ r. not (owned p.start r)) xs, few n)) in

@@ -1,8 +1,8 @@
 -- The book that is fed with what was told of a hall is the hall's own view: calls with their answers, scan lists by letters and numbers.
-use Rattle.std.proofs.Common.{◌≡◌, ℕ, Bool, true, false, cond, eqb, ltb, List, [], ◌∷◌, length, Some, None, Option, sym, refl, ap, ◌∙◌, subst}
+use Rattle.std.proofs.Common.{◌≡◌, ℕ, Bool, true, false, cond, eqb, ltb, List, [], ◌∷◌, length, Some, None, Option, sym, refl, ap, ◌∙◌, subst, Ok, Err}
 use Rattle.station.specs.Meaning.{Meaning}
-use Rattle.protocol.specs.declared.answer.Answer.{Answer}
-use Rattle.protocol.specs.declared.answer.Answer.TheVariants.{Loaded, Opened, Cancelled, Stepped, Refused}
+use Rattle.protocol.specs.Answer.{Answer}
+use Rattle.protocol.specs.declared.answer.Served.TheVariants.{Loaded, Opened, Cancelled, Stepped}
 use Rattle.protocol.specs.declared.answer.Refusal.{Refusal}
 use Rattle.protocol.specs.declared.answer.Refusal.TheVariants.{LongList}
 use Rattle.protocol.specs.declared.answer.Turn.{Turn}
@@ -10,7 +10,8 @@ use Rattle.protocol.specs.declared.answer.Turn.TheVariants as turns
 use Rattle.protocol.specs.declared.scan.Request.{Request}
 use Rattle.protocol.specs.declared.standing.Standing.{Standing}
 use Rattle.protocol.specs.declared.standing.Standing.TheVariants.{Running, Withdrawing, PastPivot}
-use Rattle.protocol.specs.Options.{when, else}
+use Rattle.std.specs.Bool.{then_some}
+use Rattle.std.specs.Option.{option_or}
 use Rattle.protocol.specs.Means.{Laws}
 use Rattle.protocol.specs.Hall.{Process, Hall, find}
 use Rattle.protocol.specs.StepFunction.{step_of}
@@ -24,50 +25,25 @@ use Rattle.protocol.proofs.SoundKept.{sound_outcome}
 use Rattle.protocol.proofs.Books.{view, noted_is}
 use Rattle.protocol.proofs.StepsExact.{exact}
 
--- answers that the book notes nothing of
-abbrev Silent : Answer → Type 0
-Silent Loaded = ⊥
-Silent (Opened n) = ⊥
-Silent Cancelled = Unit {0}
-Silent (Stepped (turns.Done x)) = ⊥
-Silent (Stepped turns.Failed) = Unit {0}
-Silent (Stepped (turns.Wait n)) = Unit {0}
-Silent (Stepped (turns.Undone a)) = ⊥
-Silent (Stepped turns.Restarted) = ⊥
-Silent (Stepped turns.Gone) = ⊥
-Silent (Stepped (turns.Next k)) = ⊥
-Silent (Stepped (turns.Committed c)) = ⊥
-Silent (Refused r) = Unit {0}
-
-on_step_silent : (b : Book) (o : Option Entry) (a : Answer) → Silent a → on_step b o a ≡ b
-on_step_silent b None a s = refl
-on_step_silent b (Some e) Loaded s = absurd s
-on_step_silent b (Some e) (Opened n) s = absurd s
-on_step_silent b (Some e) Cancelled s = refl
-on_step_silent b (Some e) (Stepped (turns.Done x)) s = absurd s
-on_step_silent b (Some e) (Stepped turns.Failed) s = refl
-on_step_silent b (Some e) (Stepped (turns.Wait n)) s = refl
-on_step_silent b (Some e) (Stepped (turns.Undone a)) s = absurd s
-on_step_silent b (Some e) (Stepped turns.Restarted) s = absurd s
-on_step_silent b (Some e) (Stepped turns.Gone) s = absurd s
-on_step_silent b (Some e) (Stepped (turns.Next k)) s = absurd s
-on_step_silent b (Some e) (Stepped (turns.Committed c)) s = absurd s
-on_step_silent b (Some e) (Refused r) s = refl
+-- what is noted of no entry's step is noted of none
+unnoted : (b : Book) (o : Option Entry) (a : Answer) → ((e : Entry) → on_step b (Some e) a ≡ b) → on_step b o a ≡ b
+unnoted b None a silent = refl
+unnoted b (Some e) a silent = silent e
 
 -- a call that a scan record can be, with an answer that it can have
 pub data ScanCall : Call → Answer → Type 0 where
-  open_served : {k n : ℕ} → ScanCall (opening k) (Opened n)
-  step_served : {n : ℕ} {t : Turn} → ScanCall (stepping n) (Stepped t)
-  cancel_served : {n : ℕ} → ScanCall (cancelling n) Cancelled
-  open_refused : {k : ℕ} {r : Refusal} → ScanCall (opening k) (Refused r)
-  step_refused : {n : ℕ} {r : Refusal} → ScanCall (stepping n) (Refused r)
-  cancel_refused : {n : ℕ} {r : Refusal} → ScanCall (cancelling n) (Refused r)
+  open_served : {k n : ℕ} → ScanCall (opening k) (Ok (Opened n))
+  step_served : {n : ℕ} {t : Turn} → ScanCall (stepping n) (Ok (Stepped t))
+  cancel_served : {n : ℕ} → ScanCall (cancelling n) (Ok Cancelled)
+  open_refused : {k : ℕ} {r : Refusal} → ScanCall (opening k) (Err r)
+  step_refused : {n : ℕ} {r : Refusal} → ScanCall (stepping n) (Err r)
+  cancel_refused : {n : ℕ} {r : Refusal} → ScanCall (cancelling n) (Err r)
 
 -- the letter and the number that are written say as much as the answer
-step_told : (b : Book) (n : ℕ) (t : Turn) (r : Request) → noted_if b (Some (stepping n)) (answer_told (written r (Stepped t)).letter (written r (Stepped t)).number) ≡ noted b (stepping n) (Stepped t)
+step_told : (b : Book) (n : ℕ) (t : Turn) (r : Request) → noted_if b (Some (stepping n)) (answer_told (written r (Ok (Stepped t))).letter (written r (Ok (Stepped t))).number) ≡ noted b (stepping n) (Ok (Stepped t))
 step_told b n (turns.Done x) r = refl
-step_told b n turns.Failed r = sym (on_step_silent b (seek n b.entries) (Stepped turns.Failed) tt)
-step_told b n (turns.Wait m) r = sym (on_step_silent b (seek n b.entries) (Stepped (turns.Wait m)) tt)
+step_told b n turns.Failed r = sym (unnoted b (seek n b.entries) (Ok (Stepped turns.Failed)) (λ e. refl))
+step_told b n (turns.Wait m) r = sym (unnoted b (seek n b.entries) (Ok (Stepped (turns.Wait m))) (λ e. refl))
 step_told b n (turns.Undone a) r = refl
 step_told b n turns.Restarted r = refl
 step_told b n turns.Gone r = refl
@@ -79,27 +55,27 @@ told b c a open_served r = refl
 told b c a (step_served {n} {t}) r = step_told b n t r
 told b c a cancel_served r = refl
 told b c a open_refused r = refl
-told b c a (step_refused {n} {r = f}) r = sym (on_step_silent b (seek n b.entries) (Refused f) tt)
+told b c a (step_refused {n} {r = f}) r = sym (unnoted b (seek n b.entries) (Err f) (λ e. refl))
 told b c a cancel_refused r = refl
 
 -- a record keeps its kind and its operand
 same_call : (r : Request) (a : Answer) → call_of (written r a) ≡ call_of r
-same_call r Loaded = refl
-same_call r (Opened n) = refl
-same_call r Cancelled = refl
-same_call r (Stepped (turns.Done x)) = refl
-same_call r (Stepped turns.Failed) = refl
-same_call r (Stepped (turns.Wait n)) = refl
-same_call r (Stepped (turns.Undone x)) = refl
-same_call r (Stepped turns.Restarted) = refl
-same_call r (Stepped turns.Gone) = refl
-same_call r (Stepped (turns.Next k)) = refl
-same_call r (Stepped (turns.Committed c)) = refl
-same_call r (Refused f) = refl
+same_call r (Ok Loaded) = refl
+same_call r (Ok (Opened n)) = refl
+same_call r (Ok Cancelled) = refl
+same_call r (Ok (Stepped (turns.Done x))) = refl
+same_call r (Ok (Stepped turns.Failed)) = refl
+same_call r (Ok (Stepped (turns.Wait n))) = refl
+same_call r (Ok (Stepped (turns.Undone x))) = refl
+same_call r (Ok (Stepped turns.Restarted)) = refl
+same_call r (Ok (Stepped turns.Gone)) = refl
+same_call r (Ok (Stepped (turns.Next k))) = refl
+same_call r (Ok (Stepped (turns.Committed c))) = refl
+same_call r (Err f) = refl
 
 -- a known kind is an opening, a step or a cancelling
 abbrev by_kind : ℕ → Bool → Bool → Bool → Option Call
-by_kind n o s x = else (when o (opening n)) (else (when s (stepping n)) (when x (cancelling n)))
+by_kind n o s x = option_or (then_some o (opening n)) (option_or (then_some s (stepping n)) (then_some x (cancelling n)))
 
 module _ {S : Type 0} (M : Meaning S) where
   opens_scan : (h : Hall S) (k : ℕ) (o : Option Refusal) → ScanCall (opening k) (refused_or h o (opened h k)).answer

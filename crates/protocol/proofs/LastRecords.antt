@@ -1,8 +1,9 @@
 -- The last record of a process, and those up to its last pivot.
-use Rattle.std.proofs.Common.{◌≡◌, ℕ, Bool, true, false, cond, ◌&&◌, ◌⊎◌, List, [], ◌∷◌, Some, None, Option, sym, refl, ap, ◌∙◌, subst, inl, inr}
-use Rattle.std.proofs.lemmas.Bool.{eqb-true, eqb-false, eq-eqb, or_parts, and_from}
+use Rattle.std.proofs.Common.{◌≡◌, ℕ, Bool, true, false, cond, ◌&&◌, ◌⊎◌, List, [], ◌∷◌, Some, None, Option, sym, refl, ap, ◌∙◌, subst, inl, inr, ⊎_elim}
+use Rattle.std.specs.List.{list_any}
+use Rattle.std.proofs.lemmas.Bool.{eqb-true, eqb-false, eq-eqb, or_parts, and_from, both_ways}
 use Rattle.protocol.specs.declared.record.Record.{Record}
-use Rattle.protocol.specs.Log.{any, owned, Split, rejoined, or_here, last_of, unless_pivot, returnable, pivoted, from_pivot}
+use Rattle.protocol.specs.Log.{owned, Split, rejoined, or_here, last_of, unless_pivot, returnable, pivoted, from_pivot}
 use Rattle.protocol.proofs.Members.{In, some_any, in_here}
 
 abbrev pub NotOf : ℕ → List Record → Type 0
@@ -53,9 +54,13 @@ loose_is n log = go (last_of n log) (last_is n log)
         by true e = inr (subst (λ l. pivoted l n ≡ true) (sym was.whole) (pivot_in n (rejoined s) s.at (in_here s.before s.at s.after) was.owner e))
         by false e = record { last = was; plain = e }
 
+-- with nothing to take back, and no kept pivot, there is no record
+pub none_own : (n : ℕ) (log : List Record) → pivoted log n ≡ false → returnable n log ≡ None → NotOf n log
+none_own n log off none = ⊎_elim (λ x. x) (λ piv. absurd (both_ways (pivoted log n) off piv)) (subst (LooseIs n log) none (loose_is n log))
+
 -- without a pivot all come after it
-pub from_none : (xs : List Record) → any (λ x. x.pivot) xs ≡ false → from_pivot xs ≡ xs
+pub from_none : (xs : List Record) → list_any (λ x. x.pivot) xs ≡ false → from_pivot xs ≡ xs
 from_none [] e = refl
 from_none (r ∷ rs) e =
-    let (here, rest) = or_parts r.pivot (any (λ x. x.pivot) rs) e in
+    let (here, rest) = or_parts r.pivot (list_any (λ x. x.pivot) rs) e in
     ap (λ b. cond b (from_pivot rs) (cond r.pivot rs (r ∷ rs))) rest ∙ ap (λ b. cond b rs (r ∷ rs)) here

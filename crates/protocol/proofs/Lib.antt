@@ -1,4 +1,6 @@
 pub mod Members
+pub mod Sealed
+pub mod Objections
 pub mod Processes
 pub mod Ranks
 pub mod LastRecords

@@ -1,7 +1,8 @@
 -- A step done, a step taken back and a commit keep a hall sound.
 use Rattle.std.proofs.Common.{◌≡◌, ℕ, suc, ◌<◌, ◌≤◌, Bool, true, false, cond, ◌&&◌, ◌||◌, eqb, ◌⊎◌, List, [], ◌∷◌, ◌++◌, map, Some, sym, refl, ap, ◌∙◌, subst, inl, inr, ⊎_elim, arith}
+use Rattle.std.specs.List.{list_any}
 use mathlib.Core.Path.{fun_ext}
-use Rattle.std.proofs.lemmas.Bool.{true≢false, false≢true, eqb-true, eqb-false, eq-eqb, ne_eqb, and_from, and_cases, cases_eq, and_right, both_ways}
+use Rattle.std.proofs.lemmas.Bool.{true≢false, false≢true, eqb-true, eqb-false, eq-eqb, ne_eqb, and_from, or_parts, or_left, or_right, and_left, and_cases, cases_eq, and_right, both_ways}
 use Rattle.serial.specs.Replay.{Replays}
 use Rattle.serial.specs.Actions.{KeepsGood, Commutes, Restores}
 use Rattle.serial.proofs.Replaying.{replay_push}
@@ -12,12 +13,13 @@ use Rattle.protocol.specs.declared.standing.Standing.{Standing}
 use Rattle.station.specs.Meaning.{Meaning}
 use Rattle.protocol.specs.Means.{actions, Laws, Does, conflicting}
 use Rattle.program.specs.Positions.{Position}
-use Rattle.protocol.specs.Log.{any, owned, own, Split, rejoined, removed, pivoted, group, number, prior, committed_under, from_pivot}
+use Rattle.protocol.specs.Log.{owned, own, Split, rejoined, removed, pivoted, group, number, prior, committed_under, from_pivot}
 use Rattle.protocol.specs.Hall.{Process, Hall, find, changed, move, past_pivot, record_of, standing_after}
 use Rattle.protocol.specs.StepFunction.{holds_conflict, holds_any_conflict, stands_before_conflict, performed, undone, committing}
-use Rattle.protocol.proofs.Members.{In, Before, all_from, before_first, before_second, in_push, before_push, in_more, before_more, before_here, in_here, in_map, before_map, any_none, any_push, any_more, any_map, in_kept, any_kept}
+use Rattle.protocol.proofs.Members.{or_off, In, Before, all_from, before_first, before_second, in_push, before_push, in_more, before_more, before_here, in_here, in_map, before_map, any_none, any_push, any_more, any_map, in_kept, any_kept}
 use Rattle.protocol.proofs.Processes.{found_start, from_changed, to_changed, find_without, from_without}
 use Rattle.protocol.proofs.Ranks.{Rank, committed, pivoting, waiting, rank, Later, later, not_prior}
+use Rattle.protocol.proofs.Sealed.{sealed}
 use Rattle.protocol.proofs.LastRecords.{Loose, from_none}
 use Rattle.protocol.proofs.Sound.{rowless, Placed, Owner, Active, Ordered, Sound}
 
@@ -28,11 +30,11 @@ untouched conflict n a log e r i same =
 
 pub not_before : (conflict : ℕ → ℕ → Bool) (n m : ℕ) (log : List Record) → stands_before_conflict conflict n m log ≡ false → (a b : Record) → Before a b log → a.start ≡ n → b.start ≡ m → conflict a.activity.number b.activity.number ≡ false
 not_before conflict n m [] e a b i p q = elim i [ ]
-not_before conflict n m (r ∷ rs) e a b (inr i) p q = not_before conflict n m rs (Rattle.std.proofs.lemmas.Bool.or_parts (owned n r && any (λ x. owned m x && conflict r.activity.number x.activity.number) rs) (stands_before_conflict conflict n m rs) e).1 a b i p q
+not_before conflict n m (r ∷ rs) e a b (inr i) p q = not_before conflict n m rs (or_parts _ _ e).1 a b i p q
 not_before conflict n m (r ∷ rs) e a b (inl (at, i)) p q =
-    let none = (Rattle.std.proofs.lemmas.Bool.or_parts (owned n r && any (λ x. owned m x && conflict r.activity.number x.activity.number) rs) (stands_before_conflict conflict n m rs) e).0 in
+    let none = (or_parts _ _ e).0 in
     let mine : owned n r ≡ true = eq-eqb r.start n (ap (λ x. x.start) (sym at) ∙ p) in
-    let free : any (λ x. owned m x && conflict r.activity.number x.activity.number) rs ≡ false = ap (λ t. t && any (λ x. owned m x && conflict r.activity.number x.activity.number) rs) (sym mine) ∙ none in
+    let free : list_any (λ x. owned m x && conflict r.activity.number x.activity.number) rs ≡ false = ap (λ t. t && list_any (λ x. owned m x && conflict r.activity.number x.activity.number) rs) (sym mine) ∙ none in
     ap (λ x. conflict x.activity.number b.activity.number) at
     ∙ ap (λ t. t && conflict r.activity.number b.activity.number) (sym (eq-eqb b.start m q))
     ∙ any_none (λ x. owned m x && conflict r.activity.number x.activity.number) rs free b i
@@ -94,34 +96,18 @@ module _ {S : Type 0} (M : Meaning S) (laws : Laws M) (s : S) where
     pivots_same : (pivot : Bool) (a : Activity) (x : ℕ) → (pivot ≡ false) ⊎ (past_pivot p.standing ≡ true) → pivoted (h.log ++ record_of p pivot a x ∷ []) ≡ pivoted h.log
     pivots_same pivot a x how = fun_ext (λ n. any_push (λ r. owned n r && r.pivot) h.log (record_of p pivot a x) ∙ go n how)
       where
-        or_off : (b c : Bool) → c ≡ false → (b || c) ≡ b
-        or_off true c e = refl
-        or_off false c e = e
-
-        or_on : (b c : Bool) → b ≡ true → (b || c) ≡ b
-        or_on true c e = refl
-        or_on false c e = absurd (false≢true e)
-
         go : (n : ℕ) → (pivot ≡ false) ⊎ (past_pivot p.standing ≡ true) → (pivoted h.log n || (owned n (record_of p pivot a x) && pivot)) ≡ pivoted h.log n
         go n (inl plain) = or_off (pivoted h.log n) (eqb p.start n && pivot) (and_right (eqb p.start n) pivot plain)
         go n (inr past) = ⊎_elim
-            (λ same. or_on (pivoted h.log n) (eqb p.start n && pivot) (ap (pivoted h.log) (sym same) ∙ (sound.actives p.start p is).pivot ∙ past))
+            (λ same. let on = ap (pivoted h.log) (sym same) ∙ (sound.actives p.start p is).pivot ∙ past in or_left _ _ on ∙ sym on)
             (λ other. or_off (pivoted h.log n) (eqb p.start n && pivot) (ap (λ b. b && pivot) (ne_eqb p.start n other)))
             (cases_eq p.start n)
 
     pivots_more : (a : Activity) (x : ℕ) (n : ℕ) → (n ≡ p.start → ⊥) → pivoted (h.log ++ record_of p true a x ∷ []) n ≡ pivoted h.log n
-    pivots_more a x n other = any_push (λ r. owned n r && r.pivot) h.log (record_of p true a x) ∙ go (pivoted h.log n) (eqb p.start n && true) (ap (λ b. b && true) (ne_eqb p.start n (λ e. other (sym e))))
-      where
-        go : (b c : Bool) → c ≡ false → (b || c) ≡ b
-        go true c e = refl
-        go false c e = e
+    pivots_more a x n other = any_push (λ r. owned n r && r.pivot) h.log (record_of p true a x) ∙ or_off _ _ (and_left _ true (ne_eqb p.start n (λ e. other (sym e))))
 
     pivots_own : (a : Activity) (x : ℕ) → pivoted (h.log ++ record_of p true a x ∷ []) p.start ≡ true
-    pivots_own a x = any_push (λ r. owned p.start r && r.pivot) h.log (record_of p true a x) ∙ go (pivoted h.log p.start) (eqb p.start p.start) (eq-eqb p.start p.start refl)
-      where
-        go : (b c : Bool) → c ≡ true → (b || (c && true)) ≡ true
-        go true c e = refl
-        go false c e = ap (λ t. t && true) e
+    pivots_own a x = any_push (λ r. owned p.start r && r.pivot) h.log (record_of p true a x) ∙ or_right _ _ (and_from _ true (eq-eqb p.start p.start refl) refl)
 
     -- records that stood there when a running process passed its pivot
     old_pairs : (piv : ℕ → Bool) → ((n : ℕ) → (n ≡ p.start → ⊥) → piv n ≡ pivoted h.log n) → piv p.start ≡ true → past_pivot p.standing ≡ false → First h p → (a b : Record) → Before a b h.log → prior piv a b ≡ false → conflicting M a b ≡ false
@@ -195,9 +181,6 @@ module _ {S : Type 0} (M : Meaning S) (laws : Laws M) (s : S) where
       first : pivot ≡ true → past_pivot p.standing ≡ false → First h p → Untouched a → How pivot a
 
     module _ (pivot : Bool) (a : Activity) (x : ℕ) (to : Position) (how : How pivot a) where
-      log' : List Record
-      log' = h.log ++ record_of p pivot a x ∷ []
-
       others_same : (n : ℕ) → (n ≡ p.start → ⊥) → pivoted (h.log ++ record_of p pivot a x ∷ []) n ≡ pivoted h.log n
       others_same n other = go how
         where
@@ -251,9 +234,6 @@ module _ {S : Type 0} (M : Meaning S) (laws : Laws M) (s : S) where
               go (same (inr past)) running = absurd (both_ways (past_pivot p.standing) running past)
               go (first y run f u) running = inr u
 
-    f_keeps : (st : Standing) (to : Position) (q : Process) → (move st to q).start ≡ q.start
-    f_keeps st to q = refl
-
     pub sound_done : (pivot : Bool) (a : Activity) (to : Position) (d : ℕ × S)
         → M.performed h.station a ≡ Some d
         → Clear h p a
@@ -305,7 +285,7 @@ module _ {S : Type 0} (M : Meaning S) (laws : Laws M) (s : S) where
         st = standing_after pivot p.standing
 
         from : (n : ℕ) (q : Process) → find n (changed p.start (move (standing_after pivot p.standing) to) h.processes) ≡ Some q → ((n ≡ p.start) × (q ≡ move (standing_after pivot p.standing) to p)) ⊎ ((n ≡ p.start → ⊥) × (find n h.processes ≡ Some q))
-        from n q e = from_changed p.start p (move (standing_after pivot p.standing) to) (f_keeps (standing_after pivot p.standing) to) h.processes is n q e
+        from n q e = from_changed p.start p (move (standing_after pivot p.standing) to) (λ q. refl) h.processes is n q e
 
         old : (r : Record) → In r h.log → Owner M after r
         old r i =
@@ -313,7 +293,7 @@ module _ {S : Type 0} (M : Meaning S) (laws : Laws M) (s : S) where
             record {
               low = o.low;
               bound = o.bound;
-              active = λ e. let (q, at) = o.active e in to_changed p.start (move st to) (f_keeps st to) r.start h.processes q at;
+              active = λ e. let (q, at) = o.active e in to_changed p.start (move st to) (λ q. refl) r.start h.processes q at;
               left = λ q e. ⊎_elim (λ mine. own_active r i mine.0) (λ other. o.left q other.1) (from r.start q e);
               back = λ q e plain free. ⊎_elim
                   (λ mine. o.back p (ap (λ k. find k h.processes) mine.0 ∙ is) plain (row (sym (ap (λ z. rowless z.at) mine.1) ∙ free)))
@@ -325,7 +305,7 @@ module _ {S : Type 0} (M : Meaning S) (laws : Laws M) (s : S) where
         of_new = record {
           low = (sound.actives p.start p is).low;
           bound = omega arith;
-          active = λ e. to_changed p.start (move st to) (f_keeps st to) p.start h.processes p is;
+          active = λ e. to_changed p.start (move st to) (λ q. refl) p.start h.processes p is;
           left = λ q e. refl;
           back = λ q e plain free. ⊎_elim
               (λ mine. comp plain (sym (ap (λ z. rowless z.at) mine.1) ∙ free))
@@ -438,18 +418,10 @@ module _ {S : Type 0} (M : Meaning S) (laws : Laws M) (s : S) where
 
         -- sealing changes nothing but the commit number
         seal_step : (r : Record) → (seal r).activity ≡ r.activity
-        seal_step r = go (owned p.start r)
-          where
-            go : (b : Bool) → (cond b (with_commit r) r).activity ≡ r.activity
-            go true = refl
-            go false = refl
+        seal_step r = sealed (λ x. x.activity) p.start (suc h.committed) r refl
 
         seal_start : (r : Record) → (seal r).start ≡ r.start
-        seal_start r = go (owned p.start r)
-          where
-            go : (b : Bool) → (cond b (with_commit r) r).start ≡ r.start
-            go true = refl
-            go false = refl
+        seal_start r = sealed (λ x. x.start) p.start (suc h.committed) r refl
 
         kin_sealed : (c d : Record) → In c h.log → In d h.log → c.start ≡ d.start → (c.start ≡ p.start) ⊎ (c.start ≡ p.start → ⊥) → (seal c).commit ≡ (seal d).commit
         kin_sealed c d i j e (inl mine) = ap (λ z. z.commit) (seal_own c mine) ∙ sym (ap (λ z. z.commit) (seal_own d (sym e ∙ mine)))
@@ -462,18 +434,10 @@ module _ {S : Type 0} (M : Meaning S) (laws : Laws M) (s : S) where
         number_sealed c d i j e some (inr other) (inr other') = sound.numbers c d i j (ap (λ z. z.commit) (sym (seal_other c other)) ∙ e ∙ ap (λ z. z.commit) (seal_other d other')) (λ f. some (ap (λ z. z.commit) (seal_other c other) ∙ f))
 
         seal_answer : (r : Record) → (seal r).answer ≡ r.answer
-        seal_answer r = go (owned p.start r)
-          where
-            go : (b : Bool) → (cond b (with_commit r) r).answer ≡ r.answer
-            go true = refl
-            go false = refl
+        seal_answer r = sealed (λ x. x.answer) p.start (suc h.committed) r refl
 
         seal_test : (n : ℕ) (r : Record) → (owned n (seal r) && (seal r).pivot) ≡ (owned n r && r.pivot)
-        seal_test n r = go (owned p.start r)
-          where
-            go : (b : Bool) → (owned n (cond b (with_commit r) r) && (cond b (with_commit r) r).pivot) ≡ (owned n r && r.pivot)
-            go true = refl
-            go false = refl
+        seal_test n r = sealed (λ x. owned n x && x.pivot) p.start (suc h.committed) r refl
 
         seal_clash : (c d : Record) → conflicting M (seal c) (seal d) ≡ conflicting M c d
         seal_clash c d = λ i. M.conflict (seal_step c i).number (seal_step d i).number

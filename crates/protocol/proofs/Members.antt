@@ -1,15 +1,24 @@
 -- What stands in a list, and what stands before what.
-use Rattle.std.proofs.Common.{◌≡◌, Bool, true, false, cond, ◌&&◌, ◌||◌, ◌⊎◌, List, [], ◌∷◌, ◌++◌, map, filter, sym, refl, ap, ◌∙◌, inl, inr, ⊎_elim}
-use Rattle.std.proofs.lemmas.Bool.{or_parts, or_left, or_right, or_from}
-use Rattle.std.specs.List.{AllByRecursion}
+use Rattle.std.proofs.Common.{◌≡◌, ℕ, zero, suc, get_or, Bool, true, false, cond, ◌&&◌, ◌||◌, ◌⊎◌, List, [], ◌∷◌, ◌++◌, map, filter, sym, refl, ap, ◌∙◌, inl, inr, ⊎_elim}
+use Rattle.std.proofs.lemmas.List.Folds.{list_any-append}
+use Rattle.std.proofs.lemmas.Bool.{false≢true, or_cases, or_parts, or_left, or_right, or_from}
+use Rattle.std.specs.List.{AllByRecursion, list_any}
 use Rattle.serial.specs.Sorts.{Pairwise}
-use Rattle.protocol.specs.Log.{any}
 pub use Rattle.protocol.specs.Relation.{In, Before}
+
+pub or_off : (b c : Bool) → c ≡ false → (b || c) ≡ b
+or_off true c e = refl
+or_off false c e = e
 
 module _ {X : Type 0} where
   pub all_from : (P : X → Type 0) (xs : List X) → ((x : X) → In x xs → P x) → AllByRecursion P xs
   all_from P [] f = tt
   all_from P (x ∷ xs) f = (f x (inl refl), all_from P xs (λ y i. f y (inr i)))
+
+  pub all_at : (P : X → Type 0) (d : X) → P d → (k : ℕ) (xs : List X) → AllByRecursion P xs → P (get_or xs k d)
+  all_at P d p k [] all = p
+  all_at P d p zero (x ∷ xs) all = all.0
+  all_at P d p (suc k) (x ∷ xs) all = all_at P d p k xs all.1
 
   pub pairs_from : (P : X → X → Type 0) (xs : List X) → ((a b : X) → Before a b xs → P a b) → Pairwise P xs
   pairs_from P [] f = tt
@@ -67,37 +76,31 @@ module _ {X : Type 0} where
   before_map f a b [] i = elim i [ ]
 
   -- a test that nothing passes
-  pub any_none : (p : X → Bool) (xs : List X) → any p xs ≡ false → (x : X) → In x xs → p x ≡ false
+  pub any_none : (p : X → Bool) (xs : List X) → list_any p xs ≡ false → (x : X) → In x xs → p x ≡ false
   any_none p [] e x i = elim i [ ]
-  any_none p (y ∷ ys) e x (inl q) = ap p q ∙ (or_parts (p y) (any p ys) e).0
-  any_none p (y ∷ ys) e x (inr i) = any_none p ys (or_parts (p y) (any p ys) e).1 x i
+  any_none p (y ∷ ys) e x (inl q) = ap p q ∙ (or_parts (p y) (list_any p ys) e).0
+  any_none p (y ∷ ys) e x (inr i) = any_none p ys (or_parts (p y) (list_any p ys) e).1 x i
 
-  pub none_any : (p : X → Bool) (xs : List X) → ((x : X) → In x xs → p x ≡ false) → any p xs ≡ false
+  pub none_any : (p : X → Bool) (xs : List X) → ((x : X) → In x xs → p x ≡ false) → list_any p xs ≡ false
   none_any p [] f = refl
-  none_any p (y ∷ ys) f = or_from (p y) (any p ys) (f y (inl refl)) (none_any p ys (λ x i. f x (inr i)))
+  none_any p (y ∷ ys) f = or_from (p y) (list_any p ys) (f y (inl refl)) (none_any p ys (λ x i. f x (inr i)))
 
-  pub some_any : (p : X → Bool) (xs : List X) (x : X) → In x xs → p x ≡ true → any p xs ≡ true
-  some_any p (y ∷ ys) x (inl q) e = or_left (p y) (any p ys) (ap p (sym q) ∙ e)
-  some_any p (y ∷ ys) x (inr i) e = or_right (p y) (any p ys) (some_any p ys x i e)
+  pub in_any : (p : X → Bool) (xs : List X) → list_any p xs ≡ true → (x : X) × In x xs × (p x ≡ true)
+  in_any p [] e = absurd (false≢true e)
+  in_any p (x ∷ xs) e = ⊎_elim (λ t. (x, inl refl, t)) (λ more. let (y, i, t) = in_any p xs more in (y, inr i, t)) (or_cases (p x) (list_any p xs) e)
+
+  pub some_any : (p : X → Bool) (xs : List X) (x : X) → In x xs → p x ≡ true → list_any p xs ≡ true
+  some_any p (y ∷ ys) x (inl q) e = or_left (p y) (list_any p ys) (ap p (sym q) ∙ e)
+  some_any p (y ∷ ys) x (inr i) e = or_right (p y) (list_any p ys) (some_any p ys x i e)
   some_any p [] x i e = elim i [ ]
 
-  pub any_push : (p : X → Bool) (xs : List X) (r : X) → any p (xs ++ r ∷ []) ≡ (any p xs || p r)
-  any_push p [] r = or_false (p r)
-    where
-      or_false : (b : Bool) → (b || false) ≡ b
-      or_false true = refl
-      or_false false = refl
-  any_push p (x ∷ xs) r = ap (λ b. p x || b) (any_push p xs r) ∙ regroup (p x) (any p xs) (p r)
-    where
-      regroup : (a b c : Bool) → (a || (b || c)) ≡ ((a || b) || c)
-      regroup true b c = refl
-      regroup false b c = refl
+  pub any_push : (p : X → Bool) (xs : List X) (r : X) → list_any p (xs ++ r ∷ []) ≡ (list_any p xs || p r)
+  any_push p xs r = list_any-append p xs (r ∷ []) ∙ ap (λ b. list_any p xs || b) (or_off (p r) false refl)
 
-  pub any_more : (p : X → Bool) (xs : List X) (r : X) (ys : List X) → p r ≡ false → any p (xs ++ ys) ≡ any p (xs ++ r ∷ ys)
-  any_more p [] r ys e = ap (λ b. b || any p ys) (sym e)
-  any_more p (x ∷ xs) r ys e = ap (λ b. p x || b) (any_more p xs r ys e)
+  pub any_more : (p : X → Bool) (xs : List X) (r : X) (ys : List X) → p r ≡ false → list_any p (xs ++ ys) ≡ list_any p (xs ++ r ∷ ys)
+  any_more p xs r ys e = list_any-append p xs ys ∙ ap (λ b. list_any p xs || (b || list_any p ys)) (sym e) ∙ sym (list_any-append p xs (r ∷ ys))
 
-  pub any_map : (p : X → Bool) (f : X → X) → ((x : X) → p (f x) ≡ p x) → (xs : List X) → any p (map f xs) ≡ any p xs
+  pub any_map : (p : X → Bool) (f : X → X) → ((x : X) → p (f x) ≡ p x) → (xs : List X) → list_any p (map f xs) ≡ list_any p xs
   any_map p f same [] = refl
   any_map p f same (x ∷ xs) = λ i. same x i || any_map p f same xs i
 
@@ -110,10 +113,10 @@ module _ {X : Type 0} where
       go false j = j
   in_kept p [] x i e = elim i [ ]
 
-  pub any_kept : (p t : X → Bool) (xs : List X) → any (λ x. t x && p x) xs ≡ any p (filter t xs)
+  pub any_kept : (p t : X → Bool) (xs : List X) → list_any (λ x. t x && p x) xs ≡ list_any p (filter t xs)
   any_kept p t [] = refl
   any_kept p t (x ∷ xs) = go (t x) (any_kept p t xs)
     where
-      go : (b : Bool) → any (λ x. t x && p x) xs ≡ any p (filter t xs) → ((b && p x) || any (λ x. t x && p x) xs) ≡ any p (cond b (x ∷ filter t xs) (filter t xs))
+      go : (b : Bool) → list_any (λ x. t x && p x) xs ≡ list_any p (filter t xs) → ((b && p x) || list_any (λ x. t x && p x) xs) ≡ list_any p (cond b (x ∷ filter t xs) (filter t xs))
       go true e = ap (λ c. p x || c) e
       go false e = e

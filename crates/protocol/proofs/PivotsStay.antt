@@ -1,17 +1,23 @@
 -- What a process has kept up to its last pivot stays.
 use Rattle.std.proofs.Common.{◌≡◌, ℕ, suc, Bool, true, false, cond, ◌||◌, ◌⊎◌, List, [], ◌∷◌, ◌++◌, map, Some, None, filter, Option, sym, refl, ap, ◌∙◌, subst, inl, inr, append_assoc, append-nil}
-use Rattle.std.proofs.lemmas.Bool.{eq-eqb, ne_eqb, cases_eq, false≢true}
+use Rattle.std.specs.List.{list_any}
+use Rattle.std.proofs.lemmas.List.{map-append}
+use Rattle.std.proofs.lemmas.List.Elements.{filter-append}
+use Rattle.std.proofs.lemmas.List.Folds.{list_any-append}
+use Rattle.std.proofs.lemmas.Bool.{or_left, eq-eqb, ne_eqb, cases_eq, false≢true}
 use Rattle.activity.specs.declared.Activity.{Activity}
 use Rattle.protocol.specs.declared.record.Record.{Record}
 use Rattle.station.specs.Meaning.{Meaning}
 use Rattle.program.specs.Positions.{Position}
-use Rattle.protocol.specs.Log.{any, Split, owned, own, rejoined, removed, to_pivot, committed_under}
+use Rattle.protocol.specs.Log.{Split, owned, own, rejoined, removed, to_pivot, committed_under}
 use Rattle.protocol.specs.Hall.{Process, Hall}
 use Rattle.protocol.specs.StepFunction.{performed}
 use Rattle.protocol.specs.Call.{Call}
 use Rattle.protocol.specs.CallFunction.{outcome, ends}
 use Rattle.protocol.proofs.CallCases.{cases}
 use Rattle.protocol.specs.Statements.{without_commit_number, Begins}
+use Rattle.protocol.proofs.Members.{or_off, any_push, any_map}
+use Rattle.protocol.proofs.Sealed.{sealed}
 use Rattle.protocol.proofs.LastRecords.{NotOf, Loose, LooseIs, loose_is}
 
 -- beginnings of lists
@@ -23,53 +29,32 @@ module _ {X : Type 0} where
   pub begins_more : (xs ys zs : List X) → Begins xs ys → Begins ys zs → Begins xs zs
   begins_more xs ys zs (a, p) (b, q) = (a ++ b, sym (append_assoc xs a b) ∙ ap (λ l. l ++ b) p ∙ q)
 
-  map-append : {Y : Type 0} (f : X → Y) (xs ys : List X) → map f (xs ++ ys) ≡ map f xs ++ map f ys
-  map-append f [] ys = refl
-  map-append f (x ∷ xs) ys = ap (λ l. f x ∷ l) (map-append f xs ys)
-
   pub begins_map : {Y : Type 0} (f : X → Y) (xs ys : List X) → Begins xs ys → Begins (map f xs) (map f ys)
   begins_map f xs ys (a, p) = (map f a, sym (map-append f xs a) ∙ ap (map f) p)
 
   begins_cons : (x : X) (xs ys : List X) → Begins xs ys → Begins (x ∷ xs) (x ∷ ys)
   begins_cons x xs ys (a, p) = (a, ap (λ l. x ∷ l) p)
 
-  pub kept_append : (t : X → Bool) (xs ys : List X) → filter t (xs ++ ys) ≡ filter t xs ++ filter t ys
-  kept_append t [] ys = refl
-  kept_append t (x ∷ xs) ys = go (t x) (kept_append t xs ys)
-    where
-      go : (b : Bool) → filter t (xs ++ ys) ≡ filter t xs ++ filter t ys → cond b (x ∷ filter t (xs ++ ys)) (filter t (xs ++ ys)) ≡ cond b (x ∷ filter t xs) (filter t xs) ++ filter t ys
-      go true e = ap (λ l. x ∷ l) e
-      go false e = e
-
 pub pivot_begins : (xs : List Record) → Begins (to_pivot xs) xs
 pivot_begins [] = begins_same []
-pivot_begins (x ∷ xs) = go (x.pivot || any (λ r. r.pivot) xs) (pivot_begins xs)
+pivot_begins (x ∷ xs) = go (x.pivot || list_any (λ r. r.pivot) xs) (pivot_begins xs)
   where
     go : (b : Bool) → Begins (to_pivot xs) xs → Begins (cond b (x ∷ to_pivot xs) []) (x ∷ xs)
     go true e = begins_cons x (to_pivot xs) xs e
     go false e = (x ∷ xs, refl)
 
-any_longer : (p : Record → Bool) (xs ys : List Record) → any p xs ≡ true → any p (xs ++ ys) ≡ true
-any_longer p [] ys e = absurd (false≢true e)
-any_longer p (x ∷ xs) ys e = go (p x) e (any_longer p xs ys)
-  where
-    go : (b : Bool) → (b || any p xs) ≡ true → (any p xs ≡ true → any p (xs ++ ys) ≡ true) → (b || any p (xs ++ ys)) ≡ true
-    go true f again = refl
-    go false f again = again f
-
 pub pivot_longer : (xs ys : List Record) → Begins (to_pivot xs) (to_pivot (xs ++ ys))
 pivot_longer [] ys = (to_pivot ys, refl)
-pivot_longer (x ∷ xs) ys = go x.pivot (any (λ r. r.pivot) xs) refl (pivot_longer xs ys)
+pivot_longer (x ∷ xs) ys = go x.pivot (list_any (λ r. r.pivot) xs) refl (pivot_longer xs ys)
   where
-    go : (b c : Bool) → any (λ r. r.pivot) xs ≡ c → Begins (to_pivot xs) (to_pivot (xs ++ ys)) → Begins (cond (b || c) (x ∷ to_pivot xs) []) (cond (b || any (λ r. r.pivot) (xs ++ ys)) (x ∷ to_pivot (xs ++ ys)) [])
+    go : (b c : Bool) → list_any (λ r. r.pivot) xs ≡ c → Begins (to_pivot xs) (to_pivot (xs ++ ys)) → Begins (cond (b || c) (x ∷ to_pivot xs) []) (cond (b || list_any (λ r. r.pivot) (xs ++ ys)) (x ∷ to_pivot (xs ++ ys)) [])
     go true c e again = begins_cons x (to_pivot xs) (to_pivot (xs ++ ys)) again
-    go false true e again = subst (λ d. Begins (x ∷ to_pivot xs) (cond d (x ∷ to_pivot (xs ++ ys)) [])) (sym (any_longer (λ r. r.pivot) xs ys e)) (begins_cons x (to_pivot xs) (to_pivot (xs ++ ys)) again)
-    go false false e again = (cond (any (λ r. r.pivot) (xs ++ ys)) (x ∷ to_pivot (xs ++ ys)) [], refl)
+    go false true e again = subst (λ d. Begins (x ∷ to_pivot xs) (cond d (x ∷ to_pivot (xs ++ ys)) [])) (sym (list_any-append (λ r. r.pivot) xs ys ∙ or_left _ _ e)) (begins_cons x (to_pivot xs) (to_pivot (xs ++ ys)) again)
+    go false false e again = (cond (list_any (λ r. r.pivot) (xs ++ ys)) (x ∷ to_pivot (xs ++ ys)) [], refl)
 
 -- one more that is no pivot
-any_plain : (xs : List Record) (r : Record) → r.pivot ≡ false → any (λ x. x.pivot) (xs ++ r ∷ []) ≡ any (λ x. x.pivot) xs
-any_plain [] r e = ap (λ b. b || false) e
-any_plain (x ∷ xs) r e = ap (λ b. x.pivot || b) (any_plain xs r e)
+any_plain : (xs : List Record) (r : Record) → r.pivot ≡ false → list_any (λ x. x.pivot) (xs ++ r ∷ []) ≡ list_any (λ x. x.pivot) xs
+any_plain xs r e = any_push (λ x. x.pivot) xs r ∙ or_off _ _ e
 
 pub pivot_plain : (xs : List Record) (r : Record) → r.pivot ≡ false → to_pivot (xs ++ r ∷ []) ≡ to_pivot xs
 pivot_plain [] r e = ap (λ b. cond (b || false) (r ∷ []) []) e
@@ -99,64 +84,36 @@ grows_taken m log z l n = ap (firm n) l.last.whole ∙ go (cases_eq m n)
     go (inl e) =
         let free : own n z.after ≡ [] = own_none n z.after (λ r i f. l.last.after r i (f ∙ sym e)) in
         let mine : owned n z.at ≡ true = eq-eqb z.at.start n (l.last.owner ∙ e) in
-        ap to_pivot (kept_append (owned n) z.before (z.at ∷ z.after) ∙ ap (λ b. own n z.before ++ cond b (z.at ∷ own n z.after) (own n z.after)) mine ∙ ap (λ t. own n z.before ++ z.at ∷ t) free)
+        ap to_pivot (filter-append (owned n) z.before (z.at ∷ z.after) ∙ ap (λ b. own n z.before ++ cond b (z.at ∷ own n z.after) (own n z.after)) mine ∙ ap (λ t. own n z.before ++ z.at ∷ t) free)
         ∙ pivot_plain (own n z.before) z.at l.plain
-        ∙ sym (ap to_pivot (kept_append (owned n) z.before z.after ∙ ap (λ t. own n z.before ++ t) free ∙ append-nil (own n z.before)))
+        ∙ sym (ap to_pivot (filter-append (owned n) z.before z.after ∙ ap (λ t. own n z.before ++ t) free ∙ append-nil (own n z.before)))
     go (inr e) =
         let other : owned n z.at ≡ false = ne_eqb z.at.start n (λ f. e (sym l.last.owner ∙ f)) in
-        ap to_pivot (kept_append (owned n) z.before (z.at ∷ z.after) ∙ ap (λ b. own n z.before ++ cond b (z.at ∷ own n z.after) (own n z.after)) other ∙ sym (kept_append (owned n) z.before z.after))
+        ap to_pivot (filter-append (owned n) z.before (z.at ∷ z.after) ∙ ap (λ b. own n z.before ++ cond b (z.at ∷ own n z.after) (own n z.after)) other ∙ sym (filter-append (owned n) z.before z.after))
 
 module _ (m c : ℕ) where
-  with_commit : Record → Record
-  with_commit r = record { start = r.start; activity = r.activity; answer = r.answer; commit = c; pivot = r.pivot }
-
-  sealed_owned : (n : ℕ) (r : Record) → owned n (committed_under m c r) ≡ owned n r
-  unfolding with_commit
-  sealed_owned n r = go (owned m r)
-    where
-      go : (b : Bool) → owned n (cond b (with_commit r) r) ≡ owned n r
-      go true = refl
-      go false = refl
-
-  sealed_pivot : (r : Record) → (committed_under m c r).pivot ≡ r.pivot
-  unfolding with_commit
-  sealed_pivot r = go (owned m r)
-    where
-      go : (b : Bool) → (cond b (with_commit r) r).pivot ≡ r.pivot
-      go true = refl
-      go false = refl
-
-  sealed_bare : (r : Record) → without_commit_number (committed_under m c r) ≡ without_commit_number r
-  unfolding with_commit
-  sealed_bare r = go (owned m r)
-    where
-      go : (b : Bool) → without_commit_number (cond b (with_commit r) r) ≡ without_commit_number r
-      go true = refl
-      go false = refl
-
   pub own_sealed : (n : ℕ) (xs : List Record) → own n (map (committed_under m c) xs) ≡ map (committed_under m c) (own n xs)
   own_sealed n [] = refl
-  own_sealed n (x ∷ xs) = ap (λ b. cond b (committed_under m c x ∷ own n (map (committed_under m c) xs)) (own n (map (committed_under m c) xs))) (sealed_owned n x) ∙ go (owned n x) (own_sealed n xs)
+  own_sealed n (x ∷ xs) = ap (λ b. cond b (committed_under m c x ∷ own n (map (committed_under m c) xs)) (own n (map (committed_under m c) xs))) (sealed (owned n) m c x refl) ∙ go (owned n x) (own_sealed n xs)
     where
       go : (b : Bool) → own n (map (committed_under m c) xs) ≡ map (committed_under m c) (own n xs) → cond b (committed_under m c x ∷ own n (map (committed_under m c) xs)) (own n (map (committed_under m c) xs)) ≡ map (committed_under m c) (cond b (x ∷ own n xs) (own n xs))
       go true e = ap (λ l. committed_under m c x ∷ l) e
       go false e = e
 
-  any_sealed : (xs : List Record) → any (λ r. r.pivot) (map (committed_under m c) xs) ≡ any (λ r. r.pivot) xs
-  any_sealed [] = refl
-  any_sealed (x ∷ xs) = λ i. sealed_pivot x i || any_sealed xs i
+  any_sealed : (xs : List Record) → list_any (λ r. r.pivot) (map (committed_under m c) xs) ≡ list_any (λ r. r.pivot) xs
+  any_sealed xs = any_map (λ r. r.pivot) (committed_under m c) (λ r. sealed (λ x. x.pivot) m c r refl) xs
 
   pub pivot_sealed : (xs : List Record) → map without_commit_number (to_pivot (map (committed_under m c) xs)) ≡ map without_commit_number (to_pivot xs)
   pivot_sealed [] = refl
-  pivot_sealed (x ∷ xs) = ap (λ b. map without_commit_number (cond b (committed_under m c x ∷ to_pivot (map (committed_under m c) xs)) [])) (λ i. sealed_pivot x i || any_sealed xs i) ∙ go (x.pivot || any (λ r. r.pivot) xs) (pivot_sealed xs)
+  pivot_sealed (x ∷ xs) = ap (λ b. map without_commit_number (cond b (committed_under m c x ∷ to_pivot (map (committed_under m c) xs)) [])) (λ i. sealed (λ r. r.pivot) m c x refl i || any_sealed xs i) ∙ go (x.pivot || list_any (λ r. r.pivot) xs) (pivot_sealed xs)
     where
       go : (b : Bool) → map without_commit_number (to_pivot (map (committed_under m c) xs)) ≡ map without_commit_number (to_pivot xs) → map without_commit_number (cond b (committed_under m c x ∷ to_pivot (map (committed_under m c) xs)) []) ≡ map without_commit_number (cond b (x ∷ to_pivot xs) [])
-      go true e = λ i. sealed_bare x i ∷ e i
+      go true e = λ i. sealed without_commit_number m c x refl i ∷ e i
       go false e = refl
 
 pub grows : {old new : List Record} → Turn old new → Grows old new
 grows {old} stays n = begins_same (map without_commit_number (firm n old))
-grows {old} (pushed r) n = begins_map without_commit_number (firm n old) (firm n (old ++ r ∷ [])) (subst (λ l. Begins (firm n old) (to_pivot l)) (sym (kept_append (owned n) old (r ∷ []))) (pivot_longer (own n old) (own n (r ∷ []))))
+grows {old} (pushed r) n = begins_map without_commit_number (firm n old) (firm n (old ++ r ∷ [])) (subst (λ l. Begins (firm n old) (to_pivot l)) (sym (filter-append (owned n) old (r ∷ []))) (pivot_longer (own n old) (own n (r ∷ []))))
 grows {old} (taken m z l) n = subst (λ x. Begins (map without_commit_number (firm n old)) (map without_commit_number x)) (grows_taken m old z l n) (begins_same (map without_commit_number (firm n old)))
 grows {old} (seals m c) n = subst (λ x. Begins (map without_commit_number (firm n old)) x) (sym (ap (λ l. map without_commit_number (to_pivot l)) (own_sealed m c n old) ∙ pivot_sealed m c (own n old))) (begins_same (map without_commit_number (firm n old)))
 

@@ -1,8 +1,9 @@
 -- What comes next fits.
 use Rattle.std.proofs.Common.{◌≡◌, ℕ, zero, suc, Bool, true, false, eqb, ltb, List, [], ◌∷◌, ◌++◌, Some, None, Option, sym, refl}
-use Rattle.std.specs.List.{AllByRecursion}
+use Rattle.std.specs.List.{AllByRecursion, list_any}
 use Rattle.std.proofs.lemmas.Bool.{true≢false, false≢true, not-false}
-use Rattle.protocol.specs.Options.{when, else}
+use Rattle.std.specs.Bool.{then_some}
+use Rattle.std.specs.Option.{option_or}
 use Rattle.activity.specs.declared.Activity.{Activity}
 use Rattle.protocol.specs.declared.standing.Aim.{Aim}
 use Rattle.protocol.specs.declared.standing.Standing.{Standing}
@@ -14,10 +15,9 @@ use Rattle.program.specs.Positions.{in_body, in_row, Position, outer, inner, alt
 use Rattle.protocol.specs.Ahead.{Next, nothing, plain, crossing, next}
 use Rattle.program.specs.declared.command.Step.{Step}
 use Rattle.protocol.specs.Hall.{failed, Hall}
-use Rattle.protocol.specs.Log.{any}
 use Rattle.protocol.specs.declared.answer.Refusal.TheVariants.{NoPlace, Busy}
 use Rattle.protocol.specs.CallFunction.{fits, fault, faults, against_load}
-use Rattle.protocol.proofs.Processes.{none_some}
+use Rattle.protocol.proofs.Objections.{neither, not_so, no_faults}
 use Rattle.protocol.proofs.Sound.{FitsRow, FitsBody, FitsChoices, FitsRest, rowless, Placed}
 
 module _ {S : Type 0} (M : Meaning S) where
@@ -82,23 +82,15 @@ module _ {S : Type 0} (M : Meaning S) where
   withdrawing_rowless aim (inner c k r) f = elim f [ ]
 
   -- a program without faults fits
-  else_none : {X : Type 0} (a b : Option X) → else a b ≡ None → (a ≡ None) × (b ≡ None)
-  else_none None b e = (refl, e)
-  else_none (Some x) b e = absurd (none_some (sym e))
-
-  when_none : {X : Type 0} (b : Bool) (x : X) → when b x ≡ None → b ≡ false
-  when_none true x e = absurd (none_some (sym e))
-  when_none false x e = refl
-
   slot_fits : (i : ℕ) (s : Step) → fault M i s ≡ None → fits M s.kind s.activity.number ≡ true
-  slot_fits i s e = not-false _ (when_none _ _ (else_none _ _ e).1)
+  slot_fits i s e = not-false _ (not_so _ _ (neither _ _ e).1)
 
   abbrev Faultless : List Step → Type 0
   Faultless ss = AllByRecursion (λ s. fits M s.kind s.activity.number ≡ true) ss
 
   pub faultless : (i : ℕ) (ss : List Step) → faults M i ss ≡ None → Faultless ss
   faultless i [] e = tt
-  faultless i (s ∷ ss) e = let (a, b) = else_none (fault M i s) (faults M (suc i) ss) e in (slot_fits i s a, faultless (suc i) ss b)
+  faultless i (s ∷ ss) e = let (a, b) = neither (fault M i s) (faults M (suc i) ss) e in (slot_fits i s a, faultless (suc i) ss b)
 
   split : (xs ys : List Step) → Faultless (xs ++ ys) → Faultless xs × Faultless ys
   split [] ys f = (tt, f)
@@ -119,4 +111,4 @@ module _ {S : Type 0} (M : Meaning S) where
     choices_fit (or_else b c) f = (body_fits b (split (body_steps b) (choices_steps c) f).0, choices_fit c (split (body_steps b) (choices_steps c) f).1)
 
   pub load_fits : (h : Hall S) (k : ℕ) (p : Body) → against_load M h k p ≡ None → FitsBody M p
-  load_fits h k p e = body_fits p (faultless 0 (body_steps p) (else_none (when (any (λ q. eqb q.place k) h.processes) Busy) (faults M 0 (body_steps p)) (else_none (when (ltb 7 k) NoPlace) (else (when (any (λ q. eqb q.place k) h.processes) Busy) (faults M 0 (body_steps p))) e).1).1)
+  load_fits h k p e = body_fits p (faultless 0 (body_steps p) (no_faults M h k p e))

@@ -27,7 +27,7 @@ use Rattle.protocol.proofs.StandingChanges.{sound_fresh}
 use Rattle.protocol.proofs.History.{history_is, sound_events}
 use Rattle.protocol.proofs.PivotsStay.{grows_ends, pivot_begins, begins_map, begins_more}
 use Rattle.protocol.proofs.LogChanges.{any_state, commuting}
-use Rattle.protocol.proofs.Ties.{tied, in_own}
+use Rattle.protocol.proofs.Ties.{before_or_same, tied, in_own}
 
 -- records of one process stand together
 prior_kin : (piv : ℕ → Bool) (a b : Record) → a.start ≡ b.start → a.commit ≡ b.commit → prior piv a b ≡ true
@@ -57,12 +57,10 @@ transitive piv a b c e f = go (prior piv a c) refl
     go false g =
         let l = later piv a c g in
         let low = l.low in
-        let cases : (x y : Record) → prior piv x y ≡ true → (group piv x < group piv y) ⊎ ((group piv x ≡ group piv y) × (number x ≤ number y)) =
-        λ x y h. ⊎_elim (λ u. inl (ltb-true _ _ u)) (λ u. let (v, w) = and_parts (eqb (group piv x) (group piv y)) (leb (number x) (number y)) u in inr (eqb-true _ _ v, leb-true _ _ w)) (or_cases (ltb (group piv x) (group piv y)) (eqb (group piv x) (group piv y) && leb (number x) (number y)) h) in
         absurd (⊎_elim
-        (λ (x : group piv a < group piv b). ⊎_elim (λ (y : group piv b < group piv c). omega arith) (λ (y : (group piv b ≡ group piv c) × (number b ≤ number c)). omega arith) (cases b c f))
-        (λ (x : (group piv a ≡ group piv b) × (number a ≤ number b)). ⊎_elim (λ (y : group piv b < group piv c). omega arith) (λ (y : (group piv b ≡ group piv c) × (number b ≤ number c)). let less = l.within (x.0 ∙ y.0) in omega arith) (cases b c f))
-        (cases a b e))
+        (λ (x : group piv a < group piv b). ⊎_elim (λ (y : group piv b < group piv c). omega arith) (λ (y : (group piv b ≡ group piv c) × (number b ≤ number c)). omega arith) (before_or_same piv b c f))
+        (λ (x : (group piv a ≡ group piv b) × (number a ≤ number b)). ⊎_elim (λ (y : group piv b < group piv c). omega arith) (λ (y : (group piv b ≡ group piv c) × (number b ≤ number c)). let less = l.within (x.0 ∙ y.0) in omega arith) (before_or_same piv b c f))
+        (before_or_same piv a b e))
 
 sorted_orderly : (log : List Record) → Pairwise (λ a b. prior (pivoted log) a b ≡ true) (orderly log)
 sorted_orderly log = sort_sorted (prior (pivoted log)) (total (pivoted log)) (transitive (pivoted log)) log

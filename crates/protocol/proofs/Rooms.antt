@@ -1,9 +1,13 @@
 -- Every call leaves room in the log.
 use Rattle.std.proofs.Common.{◌≡◌, ℕ, zero, suc, ◌+◌, ◌*◌, ◌≤◌, Bool, true, false, cond, not, ◌&&◌, eqb, ltb, leb, List, [], ◌∷◌, ◌++◌, map, length, get_or, is_some, Some, None, filter, Option, sym, refl, ap, ◌∙◌, subst, ⊎_elim, append-nil, arith}
 use Rattle.std.specs.List.{AllByRecursion}
-use Rattle.std.proofs.ByRecursion.{All-set}
-use Rattle.std.proofs.lemmas.Bool.{eqb-true, eq-eqb, ne_eqb, ltb-false, cases_eq}
-use Rattle.protocol.specs.Options.{when, else}
+use Rattle.std.proofs.lemmas.Bool.{eqb-true, eq-eqb, ne_eqb, ltb-false, cases_eq, cond_both}
+use Rattle.std.specs.Bool.{then_some}
+use Rattle.std.specs.Option.{option_or}
+use Rattle.std.proofs.lemmas.Option.{none-some}
+use Rattle.std.proofs.lemmas.List.Filters.{length-filter_both}
+use Rattle.std.proofs.lemmas.List.{length-map, length_push}
+use Rattle.serial.proofs.Lists.{all_set}
 use Rattle.activity.specs.declared.Activity.{Activity}
 use Rattle.protocol.specs.declared.record.Record.{Record}
 use Rattle.protocol.specs.declared.answer.Refusal.TheVariants.{NoPlace, NotLoaded, Full, NoNumber, NoRoom}
@@ -22,11 +26,12 @@ use Rattle.protocol.specs.CallFunction.{against_open, loaded, opened, outcome, e
 use Rattle.protocol.proofs.CallCases.{cases}
 use Rattle.protocol.specs.Statements.{without_commit_number}
 use Rattle.protocol.proofs.Computed.{hall_after}
-use Rattle.protocol.proofs.Members.{In}
-use Rattle.protocol.proofs.Processes.{from_map, from_changed, from_without, from_push, none_some}
+use Rattle.protocol.proofs.Members.{In, all_at}
+use Rattle.protocol.proofs.Processes.{marked_keeps, from_map, from_changed, from_without, from_push}
+use Rattle.protocol.proofs.Objections.{openable}
 use Rattle.protocol.proofs.LastRecords.{NotOf, Loose, LooseIs, loose_is}
 use Rattle.protocol.proofs.PivotsStay.{own_none, own_sealed, pivot_sealed, pivot_plain}
-use Rattle.protocol.proofs.Counts.{length-map, length_push, parts, size, Roomy, roomy_few, roomy_alike, NextRoom, next_room, own_pushed, own_taken, own_left, own_others, none_loose, two_kinds, closed_push, closed_less, closed_sealed, without_less, kept_in, fewer_own, spread}
+use Rattle.protocol.proofs.Counts.{parts, size, Roomy, roomy_few, roomy_alike, NextRoom, next_room, own_pushed, own_taken, own_left, own_others, none_loose, closed_push, closed_less, closed_sealed, without_less, kept_in, fewer_own, spread}
 use Rattle.protocol.specs.Held.{rest_size}
 pub use Rattle.protocol.specs.Held.{Rooms}
 use Rattle.protocol.proofs.Sound.{Sound}
@@ -35,16 +40,14 @@ use Rattle.protocol.proofs.SoundKept.{sound_outcome, sound_ends, none_left}
 use Rattle.protocol.proofs.Promise.{all_is}
 
 fits_at : (k : ℕ) (xs : List (Option Body)) → AllByRecursion (λ o. size (body_of o) ≤ 32) xs → size (body_of (get_or xs k None)) ≤ 32
-fits_at k [] all = omega arith
-fits_at zero (x ∷ xs) all = all.0
-fits_at (suc k) (x ∷ xs) all = fits_at k xs all.1
+fits_at k xs all = all_at (λ o. size (body_of o) ≤ 32) None (omega arith) k xs all
 
 module _ {S : Type 0} where
   rooms_map : (h : Hall S) → Rooms h → (f : Process → Process) → ((q : Process) → (f q).start ≡ q.start) → ((n : ℕ) (q : Process) → find n h.processes ≡ Some q → Roomy (own n h.log) (f q).at) → Rooms (with_processes h (map f h.processes))
   rooms_map h rooms f keeps each = record {
     programs = rooms.programs;
     actives = λ n q e. let (p, at, is) = from_map f keeps n h.processes q e in subst (λ x. Roomy (own n h.log) x.at) (sym is) (each n p at);
-    budget = omega (arith, length-map f h.processes, rooms.budget);
+    budget = omega (arith, length-map h.processes f, rooms.budget);
   }
 
   rooms_changed : (h : Hall S) → Rooms h → (n : ℕ) (p : Process) → find n h.processes ≡ Some p → (f : Process → Process) → ((q : Process) → (f q).start ≡ q.start) → Roomy (own n h.log) (f p).at → Rooms (with_processes h (changed n f h.processes))
@@ -54,19 +57,12 @@ module _ {S : Type 0} where
         (λ mine. subst (λ k. Roomy (own k h.log) q.at) (sym mine.0) (subst (λ x. Roomy (own n h.log) x.at) (sym mine.1) now))
         (λ other. rooms.actives m q other.1)
         (from_changed n p f keeps h.processes is m q e);
-    budget = omega (arith, length-map (change n f) h.processes, rooms.budget);
+    budget = omega (arith, length-map h.processes (change n f), rooms.budget);
   }
 
   rooms_marked : (h : Hall S) → Rooms h → (told : Process → Bool) → Rooms (with_processes h (map (marked told) h.processes))
-  rooms_marked h rooms told = rooms_map h rooms (marked told) (λ q. keeps q (told q && running q.standing)) (λ n q e. stays n q e (told q && running q.standing))
-    where
-      keeps : (q : Process) (b : Bool) → (cond b (stand (Withdrawing Restart) q) q).start ≡ q.start
-      keeps q true = refl
-      keeps q false = refl
-
-      stays : (n : ℕ) (q : Process) → find n h.processes ≡ Some q → (b : Bool) → Roomy (own n h.log) (cond b (stand (Withdrawing Restart) q) q).at
-      stays n q e true = rooms.actives n q e
-      stays n q e false = rooms.actives n q e
+  rooms_marked h rooms told = rooms_map h rooms (marked told) (marked_keeps told)
+      (λ n q e. cond_both (told q && running q.standing) (stand (Withdrawing Restart) q) q (λ x. Roomy (own n h.log) x.at) (λ _. rooms.actives n q e) (λ _. rooms.actives n q e))
 
   rooms_gone : (h : Hall S) → Rooms h → (n : ℕ) (p : Process) → find n h.processes ≡ Some p → Rooms (with_processes h (without n h.processes))
   rooms_gone h rooms n p is = record {
@@ -77,7 +73,7 @@ module _ {S : Type 0} where
 
   rooms_loaded : (h : Hall S) → Rooms h → (k : ℕ) (b : Body) → size b ≤ 32 → Rooms (loaded h k b).hall
   rooms_loaded h rooms k b small = record {
-    programs = All-set (λ o. size (body_of o) ≤ 32) h.programs k (Some b) small rooms.programs;
+    programs = all_set (λ o. size (body_of o) ≤ 32) h.programs k (Some b) small rooms.programs;
     actives = rooms.actives;
     budget = rooms.budget;
   }
@@ -104,7 +100,7 @@ module _ {S : Type 0} where
           (λ mine. subst (λ k. Roomy (own k (h.log ++ new ∷ [])) q.at) (sym mine.0) (subst (λ x. Roomy (own p.start (h.log ++ new ∷ [])) x.at) (sym mine.1) here))
           (λ other. subst (λ l. Roomy l q.at) (sym (there n other.0)) (rooms.actives n q other.1))
           (from_changed p.start p (move (standing_after pivot p.standing) to) (λ q. refl) h.processes is n q e);
-      budget = omega (arith, length-map (change p.start (move (standing_after pivot p.standing) to)) h.processes, closed_push h.log new refl, rooms.budget);
+      budget = omega (arith, length-map h.processes (change p.start (move (standing_after pivot p.standing) to)), closed_push h.log new refl, rooms.budget);
     }
       where
         new : Record
@@ -149,18 +145,9 @@ module _ {S : Type 0} where
         like : (xs : List Record) (at : Position) → Roomy xs at → Roomy (map (committed_under p.start (suc h.committed)) xs) at
         like xs at room =
             let to : length (to_pivot (map (committed_under p.start (suc h.committed)) xs)) ≡ length (to_pivot xs) =
-            sym (length-map without_commit_number (to_pivot (map (committed_under p.start (suc h.committed)) xs))) ∙ ap length (pivot_sealed p.start (suc h.committed) xs) ∙ length-map without_commit_number (to_pivot xs) in
+            sym (length-map (to_pivot (map (committed_under p.start (suc h.committed)) xs)) without_commit_number) ∙ ap length (pivot_sealed p.start (suc h.committed) xs) ∙ length-map (to_pivot xs) without_commit_number in
             roomy_alike xs (map (committed_under p.start (suc h.committed)) xs) at to
-            (omega (arith, parts xs, parts (map (committed_under p.start (suc h.committed)) xs), length-map (committed_under p.start (suc h.committed)) xs, to)) room
-
--- else: the last objection
-last_none : {X : Type 0} (a b : Option X) → else a b ≡ None → b ≡ None
-last_none None b e = e
-last_none (Some x) b e = absurd (none_some (sym e))
-
-when_none : {X : Type 0} (b : Bool) (x : X) → when b x ≡ None → b ≡ false
-when_none true x e = absurd (none_some (sym e))
-when_none false x e = refl
+            (omega (arith, parts xs, parts (map (committed_under p.start (suc h.committed)) xs), length-map xs (committed_under p.start (suc h.committed)), to)) room
 
 -- the alternative at an ordinal that is reached is the one that was asked for
 reached_alternative : (c : Choices) (k : ℕ) → alternative c (reached c k) ≡ alternative c k
@@ -179,7 +166,7 @@ module _ {S : Type 0} (M : Meaning S) where
     waited = λ p is told n. rooms_marked h rooms told;
     loads = λ k b w e. rooms_loaded h rooms k b w.1.few;
     installs = λ k t b read e. rooms_loaded h rooms k b read.few;
-    opens = λ k e. rooms_opened h rooms free k (full k e);
+    opens = λ k e. rooms_opened h rooms free k (openable h k e).room;
     cancels = λ p is e. rooms_changed h rooms p.start p is (stand (Withdrawing End)) (λ q. refl) (rooms.actives p.start p is);
     steps = λ p is g a to n free o e. rooms_done h rooms p is false a to o (subst (NextRoom (own p.start h.log)) n (next_room (own p.start h.log) p.at (rooms.actives p.start p is)));
     crosses = λ p is g a to n alone free o e. rooms_done h rooms p is true a to o (subst (NextRoom (own p.start h.log)) n (next_room (own p.start h.log) p.at (rooms.actives p.start p is)));
@@ -189,13 +176,6 @@ module _ {S : Type 0} (M : Meaning S) where
     leaves = λ p is e none. rooms_gone h rooms p.start p is;
     turns = λ p is e none. rooms_changed h rooms p.start p is (move (PastPivot Forward) (into (suc (alternative_of p.at)) p.at)) (λ q. refl) (into_room (own p.start h.log) p.at (suc (alternative_of p.at)) (none_loose p.start h.log none) (rooms.actives p.start p is));
   }
-    where
-      full : (k : ℕ) → against_open h k ≡ None → length (committed_records h.log) + 32 * (length h.processes + 1) ≤ 1024
-      full k e = ltb-false 1024 _ (when_none _ NoRoom
-          (last_none (when (leb 65535 h.given) NoNumber) (when (ltb 1024 (length (committed_records h.log) + 32 * (length h.processes + 1))) NoRoom)
-          (last_none (when (leb 16 (length h.processes)) Full) (else (when (leb 65535 h.given) NoNumber) (when (ltb 1024 (length (committed_records h.log) + 32 * (length h.processes + 1))) NoRoom))
-          (last_none (when (not (is_some (get_or h.programs k None))) NotLoaded) (else (when (leb 16 (length h.processes)) Full) (else (when (leb 65535 h.given) NoNumber) (when (ltb 1024 (length (committed_records h.log) + 32 * (length h.processes + 1))) NoRoom)))
-          (last_none (when (ltb 7 k) NoPlace) (else (when (not (is_some (get_or h.programs k None))) NotLoaded) (else (when (leb 16 (length h.processes)) Full) (else (when (leb 65535 h.given) NoNumber) (when (ltb 1024 (length (committed_records h.log) + 32 * (length h.processes + 1))) NoRoom)))) e)))))
 
 module _ {S : Type 0} (M : Meaning S) (laws : Laws M) (s : S) where
   rooms_outcome : (h : Hall S) → Sound M s h → Rooms h → (c : Call) → Rooms (outcome M h c).hall
@@ -208,7 +188,7 @@ module _ {S : Type 0} (M : Meaning S) (laws : Laws M) (s : S) where
   pub rooms_fresh : Rooms (fresh s)
   rooms_fresh = record {
     programs = (omega arith, (omega arith, (omega arith, (omega arith, (omega arith, (omega arith, (omega arith, (omega arith, tt))))))));
-    actives = λ n q e. absurd (none_some e);
+    actives = λ n q e. absurd (none-some _ e);
     budget = omega arith;
   }
 
@@ -218,11 +198,11 @@ module _ {S : Type 0} where
       let open-few = spread h.processes (filter (λ r. eqb r.commit 0) h.log)
       (λ r i. let (j, e) = kept_in (λ r. eqb r.commit 0) h.log r i in active r j (eqb-true r.commit 0 e))
       (λ n. each n (find n h.processes) refl) in
-      omega (arith, two_kinds h.log, open-few, rooms.budget)
+      omega (arith, length-filter_both (λ r. eqb r.commit 0) (λ r. not (eqb r.commit 0)) (λ r. refl) h.log, open-few, rooms.budget)
     where
       each : (n : ℕ) (o : Option Process) → find n h.processes ≡ o → length (own n (filter (λ r. eqb r.commit 0) h.log)) ≤ 32
       each n (Some q) e = omega (arith, fewer_own n (λ r. eqb r.commit 0) h.log, roomy_few (own n h.log) q.at (rooms.actives n q e))
-      each n None e = omega (arith, ap length (own_none n (filter (λ r. eqb r.commit 0) h.log) (λ r i f. let (j, c) = kept_in (λ r. eqb r.commit 0) h.log r i in let (q, at) = active r j (eqb-true r.commit 0 c) in none_some (sym e ∙ ap (λ k. find k h.processes) (sym f) ∙ at))))
+      each n None e = omega (arith, ap length (own_none n (filter (λ r. eqb r.commit 0) h.log) (λ r i f. let (j, c) = kept_in (λ r. eqb r.commit 0) h.log r i in let (q, at) = active r j (eqb-true r.commit 0 c) in none-some _ (sym e ∙ ap (λ k. find k h.processes) (sym f) ∙ at))))
 
 pub has_room : {S : Type 0} (M : Meaning S) → Laws M → (s : S) (es : List Event) → length (hall_after M s es).log ≤ 1024
 has_room M laws s es = subst (λ h. length h.log ≤ 1024) (sym (all_is M laws (fresh s) es)) (few (ends M (fresh s) (all_singles es)) (λ r i. ((sound_ends M laws s (fresh s) (sound_fresh M s) (all_singles es)).owners r i).active) (rooms_ends M laws s (fresh s) (sound_fresh M s) (rooms_fresh M laws s) (all_singles es)))

@@ -17,7 +17,7 @@ use Rattle.protocol.specs.StepFunction.{holds_conflict, holds_any_conflict, stan
 use Rattle.protocol.specs.Call.{Call}
 use Rattle.protocol.specs.CallFunction.{outcome, ends}
 use Rattle.protocol.proofs.Processes.{found_start}
-use Rattle.protocol.proofs.LastRecords.{loose_is, LooseIs, NotOf}
+use Rattle.protocol.proofs.LastRecords.{none_own, loose_is, LooseIs, NotOf}
 use Rattle.protocol.proofs.CallCases.{Going, Backing, Passes, cases}
 use Rattle.protocol.proofs.Sound.{rowless, Placed, Sound}
 use Rattle.protocol.proofs.StandingChanges.{sound_changed, sound_marked, sound_gone, sound_opened, sound_loaded, begins}
@@ -93,7 +93,7 @@ module _ {S : Type 0} (M : Meaning S) (laws : Laws M) (s : S) where
     back_free (inr e) = back_rowless M p.at (at_standing e)
 
     pub none_left : {aim : Aim} → p.standing ≡ Withdrawing aim → returnable p.start h.log ≡ None → NotOf p.start h.log
-    none_left e none = ⊎_elim (λ x. x) (λ piv. absurd (both_ways (pivoted h.log p.start) ((sound.actives p.start p is).pivot ∙ ap past_pivot e) piv)) (subst (LooseIs p.start h.log) none (loose_is p.start h.log))
+    none_left e none = none_own p.start h.log ((sound.actives p.start p is).pivot ∙ ap past_pivot e) none
 
     sound_plain : (a : Activity) (to : Position) → Plain M p.standing p.at a to → Passes M h (blocks_plain M.conflict h.log p a) → (o : Option (ℕ × S)) → M.performed h.station a ≡ o → Sound M s (performed h p false a to o).hall
     sound_plain a to fit free (Some d) e = sound_done M laws s h sound p is false a to d e (plain_clear a free) (same (inl refl)) fit.placed fit.row (λ f. fit.comp)

@@ -1,8 +1,9 @@
 -- What does not touch the log keeps a hall sound.
 use Rattle.std.proofs.Common.{◌≡◌, ℕ, zero, suc, ◌≤◌, Bool, true, false, cond, ◌&&◌, ◌⊎◌, List, [], ◌∷◌, ◌++◌, map, get_or, Some, None, Option, sym, refl, ap, ◌∙◌, subst, inl, inr, ⊎_elim, arith}
 use Rattle.std.specs.List.{AllByRecursion}
-use Rattle.std.proofs.ByRecursion.{All-set}
 use Rattle.std.proofs.lemmas.Bool.{true≢false, false≢true}
+use Rattle.std.proofs.lemmas.Option.{none-some, same_Some}
+use Rattle.serial.proofs.Lists.{all_set}
 use Rattle.protocol.specs.declared.record.Record.{Record}
 use Rattle.protocol.specs.declared.standing.Standing.{Standing}
 use Rattle.protocol.specs.declared.standing.Aim.TheVariants.{Restart}
@@ -14,8 +15,8 @@ use Rattle.protocol.specs.Log.{pivoted, owned}
 use Rattle.protocol.specs.Hall.{Process, Hall, fresh, find, without, change, changed, stand, with_processes, past_pivot, running, body_of, beginning}
 use Rattle.protocol.specs.StepFunction.{marked}
 use Rattle.protocol.specs.CallFunction.{loaded, opened}
-use Rattle.protocol.proofs.Members.{none_any}
-use Rattle.protocol.proofs.Processes.{from_map, to_map, change_keeps, from_changed, find_without, from_without, from_push, to_push, some_same, none_some}
+use Rattle.protocol.proofs.Members.{all_at, none_any}
+use Rattle.protocol.proofs.Processes.{from_map, to_map, change_keeps, marked_keeps, from_changed, find_without, from_without, from_push, to_push}
 use Rattle.protocol.proofs.LastRecords.{NotOf}
 use Rattle.protocol.proofs.Sound.{FitsBody, rowless, Placed, Active, Sound}
 
@@ -33,8 +34,8 @@ module _ {S : Type 0} (M : Meaning S) (s : S) where
     owners = λ r i. elim i [ ];
     kin = λ a b i. elim i [ ];
     numbers = λ a b i. elim i [ ];
-    actives = λ n q e. absurd (none_some e);
-    lone = λ n m q r e. absurd (none_some e);
+    actives = λ n q e. absurd (none-some _ e);
+    lone = λ n m q r e. absurd (none-some _ e);
     programs = (tt, (tt, (tt, (tt, (tt, (tt, (tt, (tt, tt))))))));
   }
 
@@ -82,10 +83,10 @@ module _ {S : Type 0} (M : Meaning S) (s : S) where
         where
           go : ((m ≡ n) × (change n f q ≡ f p)) ⊎ ((m ≡ n → ⊥) × (find m h.processes ≡ Some (change n f q))) → Alike M q (change n f q)
           go (inl (same, now)) =
-              let that : q ≡ p = some_same (sym at ∙ ap (λ k. find k h.processes) same ∙ is) in
+              let that : q ≡ p = same_Some _ _ (sym at ∙ ap (λ k. find k h.processes) same ∙ is) in
               subst (λ x. Alike M x (change n f q)) (sym that) (subst (λ x. Alike M p x) (sym now) alike)
           go (inr (other, now)) =
-              let that : change n f q ≡ q = some_same (sym now ∙ at) in
+              let that : change n f q ≡ q = same_Some _ _ (sym now ∙ at) in
               subst (λ x. Alike M q x) (sym that) record { pivot = refl; row = λ x. x; placed = (sound.actives m q at).placed }
 
   -- marking
@@ -98,13 +99,6 @@ module _ {S : Type 0} (M : Meaning S) (s : S) where
       go Running e (inner c k r) f at = absurd (subst (λ st. Placed M st (inner c k r)) e (subst (Placed M q.standing) f at))
       go (Withdrawing aim) e a f at = record { pivot = refl; row = λ x. x; placed = at }
       go (PastPivot way) e a f at = record { pivot = refl; row = λ x. x; placed = at }
-
-  marked_keeps : (told : Process → Bool) (q : Process) → (marked told q).start ≡ q.start
-  marked_keeps told q = go (told q && running q.standing)
-    where
-      go : (b : Bool) → (cond b (stand (Withdrawing Restart) q) q).start ≡ q.start
-      go true = refl
-      go false = refl
 
   pub sound_marked : (h : Hall S) → Sound M s h → (told : Process → Bool) → Sound M s (with_processes h (map (marked told) h.processes))
   sound_marked h sound told = sound_map h sound (marked told) (marked_keeps told) (λ n q e. mark_alike q (told q) (sound.actives n q e).placed)
@@ -132,13 +126,8 @@ module _ {S : Type 0} (M : Meaning S) (s : S) where
     programs = sound.programs;
   }
 
-  fits_at : (k : ℕ) (xs : List (Option Body)) → AllByRecursion (λ o. FitsBody M (body_of o)) xs → FitsBody M (body_of (get_or xs k None))
-  fits_at k [] all = tt
-  fits_at zero (x ∷ xs) all = all.0
-  fits_at (suc k) (x ∷ xs) all = fits_at k xs all.1
-
   pub begins : (h : Hall S) → Sound M s h → (k : ℕ) → Placed M Running (beginning h.programs k)
-  begins h sound k = fits_at k h.programs sound.programs
+  begins h sound k = all_at (λ o. FitsBody M (body_of o)) None tt k h.programs sound.programs
 
   pub sound_opened : (h : Hall S) → Sound M s h → (k : ℕ) → Sound M s (opened h k).hall
   sound_opened h sound k = record {
@@ -191,5 +180,5 @@ module _ {S : Type 0} (M : Meaning S) (s : S) where
     owners = λ r i. let o = sound.owners r i in record { low = o.low; bound = o.bound; active = o.active; left = o.left; back = o.back };
     actives = λ n q e. let a = sound.actives n q e in record { low = a.low; pivot = a.pivot; placed = a.placed };
     lone = sound.lone;
-    programs = All-set (λ o. FitsBody M (body_of o)) h.programs k (Some b) fits sound.programs;
+    programs = all_set (λ o. FitsBody M (body_of o)) h.programs k (Some b) fits sound.programs;
   }

@@ -1,5 +1,5 @@
 -- A step comes to just one thing: what the rules allow.
-use Rattle.std.proofs.Common.{◌≡◌, ℕ, suc, Bool, true, false, cond, not, ◌&&◌, ◌⊎◌, List, [], ◌∷◌, ◌++◌, map, Some, None, Option, sym, refl, ap, ◌∙◌, subst, inl, inr, ⊎_elim}
+use Rattle.std.proofs.Common.{◌≡◌, ℕ, suc, Bool, true, false, cond, not, ◌&&◌, ◌⊎◌, List, [], ◌∷◌, ◌++◌, map, Some, None, Option, sym, refl, ap, ◌∙◌, subst, inl, inr, ⊎_elim, Ok}
 use Rattle.std.proofs.lemmas.Bool.{true≢false, false≢true, eq-eqb, ne_eqb, both_ways, cases_Bool}
 use Rattle.activity.specs.declared.Activity.{Activity}
 use Rattle.protocol.specs.declared.record.Record.{Record}
@@ -9,7 +9,7 @@ use Rattle.protocol.specs.declared.standing.Direction.TheVariants.{Forward, Back
 use Rattle.protocol.specs.declared.standing.Standing.TheVariants.{Running, Withdrawing, PastPivot}
 use Rattle.protocol.specs.declared.answer.Turn.{Turn}
 use Rattle.protocol.specs.declared.answer.Turn.TheVariants as turns
-use Rattle.protocol.specs.declared.answer.Answer.TheVariants.{Stepped}
+use Rattle.protocol.specs.declared.answer.Served.TheVariants.{Stepped}
 use Rattle.station.specs.Meaning.{Meaning}
 use Rattle.program.specs.Positions.{Position, alternative_of}
 use Rattle.protocol.specs.Ahead.{Next, nothing, plain, crossing, next}
@@ -41,7 +41,7 @@ loose_some : (n : ℕ) (log : List Record) (z : Split) → returnable n log ≡ 
 loose_some n log z e = loose_from n log z (subst (LooseIs n log) e (loose_is n log))
 
 loose_none : (n : ℕ) (log : List Record) → returnable n log ≡ None → NoneToTakeBack n log
-loose_none n log e z t = Rattle.protocol.proofs.Processes.none_some (sym e ∙ loose_to n log z t)
+loose_none n log e z t = Rattle.std.proofs.lemmas.Option.none-some _ (sym e ∙ loose_to n log z t)
 
 none_loose : (n : ℕ) (log : List Record) → NoneToTakeBack n log → returnable n log ≡ None
 none_loose n log free = go (returnable n log) refl
@@ -53,7 +53,7 @@ none_loose n log free = go (returnable n log) refl
 module _ {S : Type 0} (M : Meaning S) (h : Hall S) (p : Process) where
   -- allowed
   abbrev Came : Outcome S → Type 0
-  Came o = (t : Turn) × (o.answer ≡ Stepped t) × Steps M h p o.hall t
+  Came o = (t : Turn) × (o.answer ≡ Ok (Stepped t)) × Steps M h p o.hall t
 
   unmarked_hall : (t : Process → Bool) → with_processes h (map (marked (λ q. t q && nobody q)) h.processes) ≡ h
   unmarked_hall t = ap (with_processes h) (unmarked t h.processes)
@@ -180,10 +180,10 @@ module _ {S : Type 0} (M : Meaning S) (h : Hall S) (p : Process) where
       ∙ sym (ap (waits h (blocks_pivot M.conflict h.log p a) (pivot_marks p) (performed h p true a to (M.performed h.station a))) (nobody_to M p (blocks_pivot M.conflict h.log p a) (BlocksPivot M h p a) (pivot_tells M p h a) h none))
       ∙ sym (ap (waits h (blocks_alone p) nobody (unless_blocked h (blocks_pivot M.conflict h.log p a) (pivot_marks p) (performed h p true a to (M.performed h.station a)))) (alone_none alone)))
 
-  only : (g : Hall S) (t : Turn) → Steps M h p g t → Is (answered g (Stepped t))
+  only : (g : Hall S) (t : Turn) → Steps M h p g t → Is (answered g (Ok (Stepped t)))
   unfolding Is
   only g t (waits_back {z} {n} {ps} ret take small marks) =
-      ap (λ l. answered (with_processes h l) (Stepped (turns.Wait n))) (marked_to M p (λ q. blocks_back M.conflict p z q && everybody q) (BlocksBack M z) (everybody_tells M p (blocks_back M.conflict p z) (BlocksBack M z) (back_tells M p z)) h.processes ps marks)
+      ap (λ l. answered (with_processes h l) (Ok (Stepped (turns.Wait n)))) (marked_to M p (λ q. blocks_back M.conflict p z q && everybody q) (BlocksBack M z) (everybody_tells M p (blocks_back M.conflict p z) (BlocksBack M z) (back_tells M p z)) h.processes ps marks)
       ∙ sym (ap (waits h (blocks_back M.conflict p z) everybody (undone M h z)) (smallest_to M p (blocks_back M.conflict p z) (BlocksBack M z) (back_tells M p z) h n small))
       ∙ sym (retreating_to z (loose_to p.start h.log z take) p.standing ret)
   only g t (takes_back {z} ret take none) =
@@ -193,23 +193,23 @@ module _ {S : Type 0} (M : Meaning S) (h : Hall S) (p : Process) where
   only g t (leaves e none) = sym (ap (by_standing M h p) e ∙ ap (backward M h p (gone h p)) (none_loose p.start h.log none))
   only g t (takes_next_alternative e none) = sym (ap (by_standing M h p) e ∙ ap (backward M h p (next_alternative h p)) (none_loose p.start h.log none))
   only g t (waits_plain {a} {to} {n} {ps} adv e small marks) =
-      forwards adv (plain a to) e (answered (with_processes h ps) (Stepped (turns.Wait n)))
-      (ap (λ l. answered (with_processes h l) (Stepped (turns.Wait n))) (marked_to M p (λ q. blocks_plain M.conflict h.log p a q && everybody q) (BlocksPlain M h p a) (everybody_tells M p (blocks_plain M.conflict h.log p a) (BlocksPlain M h p a) (plain_tells M p h a)) h.processes ps marks)
+      forwards adv (plain a to) e (answered (with_processes h ps) (Ok (Stepped (turns.Wait n))))
+      (ap (λ l. answered (with_processes h l) (Ok (Stepped (turns.Wait n)))) (marked_to M p (λ q. blocks_plain M.conflict h.log p a q && everybody q) (BlocksPlain M h p a) (everybody_tells M p (blocks_plain M.conflict h.log p a) (BlocksPlain M h p a) (plain_tells M p h a)) h.processes ps marks)
       ∙ sym (ap (waits h (blocks_plain M.conflict h.log p a) everybody (performed h p false a to (M.performed h.station a))) (smallest_to M p (blocks_plain M.conflict h.log p a) (BlocksPlain M h p a) (plain_tells M p h a) h n small)))
   only g t (waits_alone {a} {to} {n} run e small) =
-      forwards (subst Advances (sym run) tt) (crossing a to) e (answered h (Stepped (turns.Wait n)))
-      (ap (λ x. answered x (Stepped (turns.Wait n))) (sym (unmarked_hall (blocks_alone p)))
+      forwards (subst Advances (sym run) tt) (crossing a to) e (answered h (Ok (Stepped (turns.Wait n))))
+      (ap (λ x. answered x (Ok (Stepped (turns.Wait n)))) (sym (unmarked_hall (blocks_alone p)))
       ∙ sym (ap (waits h (blocks_alone p) nobody (unless_blocked h (blocks_pivot M.conflict h.log p a) (pivot_marks p) (performed h p true a to (M.performed h.station a)))) (smallest_to M p (blocks_alone p) Past (alone_tells M p (ap past_pivot run)) h n small)))
   only g t (waits_pivot {a} {to} {n} {ps} adv e alone small marks) =
-      forwards adv (crossing a to) e (answered (with_processes h ps) (Stepped (turns.Wait n)))
-      (ap (λ l. answered (with_processes h l) (Stepped (turns.Wait n))) (marked_to M p (λ q. blocks_pivot M.conflict h.log p a q && pivot_marks p q) (λ q. BlocksPivot M h p a q × (Past p ⊎ (Prim.Native.Nat.◌<◌ p.start q.start))) (pivot_marks_tell M p h a) h.processes ps marks)
+      forwards adv (crossing a to) e (answered (with_processes h ps) (Ok (Stepped (turns.Wait n))))
+      (ap (λ l. answered (with_processes h l) (Ok (Stepped (turns.Wait n)))) (marked_to M p (λ q. blocks_pivot M.conflict h.log p a q && pivot_marks p q) (λ q. BlocksPivot M h p a q × (Past p ⊎ (Prim.Native.Nat.◌<◌ p.start q.start))) (pivot_marks_tell M p h a) h.processes ps marks)
       ∙ sym (ap (waits h (blocks_pivot M.conflict h.log p a) (pivot_marks p) (performed h p true a to (M.performed h.station a))) (smallest_to M p (blocks_pivot M.conflict h.log p a) (BlocksPivot M h p a) (pivot_tells M p h a) h n small))
       ∙ sym (ap (waits h (blocks_alone p) nobody (unless_blocked h (blocks_pivot M.conflict h.log p a) (pivot_marks p) (performed h p true a to (M.performed h.station a)))) (alone_none alone)))
   only g t (performs {pivot} {a} {to} {x} {t = u} adv free e) = freed adv pivot a to free (Some (x, u)) e
   only g t (fails {pivot} {a} {to} adv free e) = freed adv pivot a to free None e
   only g t (waits_commit {n} adv e small) =
-      forwards adv nothing e (answered h (Stepped (turns.Wait n)))
-      (ap (λ x. answered x (Stepped (turns.Wait n))) (sym (unmarked_hall (blocks_commit M.conflict h.log p)))
+      forwards adv nothing e (answered h (Ok (Stepped (turns.Wait n))))
+      (ap (λ x. answered x (Ok (Stepped (turns.Wait n)))) (sym (unmarked_hall (blocks_commit M.conflict h.log p)))
       ∙ sym (ap (waits h (blocks_commit M.conflict h.log p) nobody (committing h p)) (smallest_to M p (blocks_commit M.conflict h.log p) (BlocksCommit M h p) (commit_tells M p h) h n small)))
   only g t (commits adv e none) =
       forwards adv nothing e (committing h p)

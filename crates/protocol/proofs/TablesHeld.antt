@@ -5,7 +5,9 @@ use mathlib.Core.HLevel.{Unit-prop, ×_prop}
 use native.Mathlib.Bridge.{le_prop}
 use Rattle.serial.specs.Sorts.{Pairwise}
 use Rattle.std.specs.List.{AllByRecursion}
-use Rattle.std.proofs.lemmas.Bool.{eqb-true, eqb-false, true≢false, both_ways}
+use Rattle.std.proofs.lemmas.Bool.{eqb-true, eqb-false, true≢false, and_left, and_right, cases_Bool}
+use Rattle.std.proofs.lemmas.Option.{none-some}
+use Rattle.std.proofs.lemmas.List.{length_push}
 use Rattle.activity.specs.declared.Activity.{Activity}
 use Rattle.protocol.specs.declared.record.Record.{Record}
 use Rattle.protocol.specs.declared.standing.Standing.{Standing}
@@ -23,11 +25,12 @@ use Rattle.protocol.specs.CallFunction.{outcome}
 use Rattle.protocol.specs.Room.{Bounded}
 use Rattle.protocol.specs.Held.{Held, Roomy}
 use Rattle.protocol.proofs.CallCases.{cases}
-use Rattle.protocol.proofs.Members.{In, in_push, in_more, in_map, any_none}
-use Rattle.protocol.proofs.Processes.{from_map, to_map, from_changed, to_changed, find_without, from_without, from_push, to_push, none_some}
-use Rattle.protocol.proofs.LastRecords.{NotOf, Last, LooseIs, loose_is}
+use Rattle.protocol.proofs.Members.{In, in_push, in_more, in_map, none_any}
+use Rattle.protocol.proofs.Processes.{marked_keeps, from_map, to_map, from_changed, to_changed, find_without, from_without, from_push, to_push}
+use Rattle.protocol.proofs.Sealed.{sealed}
+use Rattle.protocol.proofs.LastRecords.{none_own, NotOf, Last, LooseIs, loose_is}
 use Rattle.protocol.proofs.Rooms.{rooms_by, rooms_done, few}
-use Rattle.protocol.proofs.Counts.{length_push, NextRoom, next_room}
+use Rattle.protocol.proofs.Counts.{NextRoom, next_room}
 use Rattle.protocol.proofs.Bounds.{bounded_outcome}
 
 pub record Owned {S : Type 0} (h : Hall S) : Type 0 where
@@ -36,7 +39,7 @@ pub record Owned {S : Type 0} (h : Hall S) : Type 0 where
   pub unpivoted : (n : ℕ) (q : Process) → find n h.processes ≡ Some q → past_pivot q.standing ≡ false → (r : Record) → In r h.log → r.start ≡ n → r.pivot ≡ false
 
 found_low : (g n : ℕ) (ps : List Process) (q : Process) → AllByRecursion (λ x. x.start ≤ g) ps → find n ps ≡ Some q → n ≤ g
-found_low g n [] q all e = absurd (none_some e)
+found_low g n [] q all e = absurd (none-some _ e)
 found_low g n (p ∷ ps) q all e = go (eqb p.start n) refl e (found_low g n ps q all.1)
   where
     go : (b : Bool) → eqb p.start n ≡ b → cond b (Some p) (find n ps) ≡ Some q → (find n ps ≡ Some q → n ≤ g) → n ≤ g
@@ -55,20 +58,6 @@ led_past false st e = e
 led_plain : (b : Bool) (st : Standing) → past_pivot (standing_after b st) ≡ false → b ≡ false
 led_plain true st e = absurd (true≢false e)
 led_plain false st e = refl
-
-sealed_start : (n c : ℕ) (r : Record) → (committed_under n c r).start ≡ r.start
-sealed_start n c r = go (owned n r)
-  where
-    go : (b : Bool) → (cond b record { start = r.start; activity = r.activity; answer = r.answer; commit = c; pivot = r.pivot } r).start ≡ r.start
-    go true = refl
-    go false = refl
-
-sealed_pivot : (n c : ℕ) (r : Record) → (committed_under n c r).pivot ≡ r.pivot
-sealed_pivot n c r = go (owned n r)
-  where
-    go : (b : Bool) → (cond b record { start = r.start; activity = r.activity; answer = r.answer; commit = c; pivot = r.pivot } r).pivot ≡ r.pivot
-    go true = refl
-    go false = refl
 
 sealed_open : (n c : ℕ) (r : Record) → (committed_under n (suc c) r).commit ≡ 0 → (r.commit ≡ 0) × (r.start ≡ n → ⊥)
 sealed_open n c r e = go (owned n r) refl e
@@ -104,12 +93,8 @@ module _ {S : Type 0} where
   }
 
   owned_marked : (h : Hall S) → Owned h → (told : Process → Bool) → Owned (with_processes h (map (marked told) h.processes))
-  owned_marked h o told = owned_map h o (marked told) (λ q. keeps q (told q && running q.standing)) (λ q. same q (told q) q.standing refl)
+  owned_marked h o told = owned_map h o (marked told) (marked_keeps told) (λ q. same q (told q) q.standing refl)
     where
-      keeps : (q : Process) (b : Bool) → (cond b (stand (Withdrawing Restart) q) q).start ≡ q.start
-      keeps q true = refl
-      keeps q false = refl
-
       same : (q : Process) (b : Bool) (st : Standing) → q.standing ≡ st → past_pivot (cond (b && running st) (stand (Withdrawing Restart) q) q).standing ≡ false → past_pivot q.standing ≡ false
       same q true Running e x = ap past_pivot e
       same q true (Withdrawing r) e x = x
@@ -160,15 +145,15 @@ module _ {S : Type 0} where
   owned_committed h o p =
       let c = suc h.committed in
       record {
-        low = λ r i. let (x, at, is) = in_map (committed_under p.start c) r h.log i in subst (λ n. n ≤ h.given) (sym (ap (λ y. y.start) is ∙ sealed_start p.start c x)) (o.low x at);
+        low = λ r i. let (x, at, is) = in_map (committed_under p.start c) r h.log i in subst (λ n. n ≤ h.given) (sym (ap (λ y. y.start) is ∙ sealed (λ y. y.start) p.start c x refl)) (o.low x at);
         active = λ r i z.
             let (x, at, is) = in_map (committed_under p.start c) r h.log i in
             let (zero_of, off) = sealed_open p.start h.committed x (ap (λ y. y.commit) (sym is) ∙ z) in
             let (q, e) = o.active x at zero_of in
-            (q, ap (λ k. find k (without p.start h.processes)) (ap (λ y. y.start) is ∙ sealed_start p.start c x) ∙ find_without p.start x.start h.processes off ∙ e);
+            (q, ap (λ k. find k (without p.start h.processes)) (ap (λ y. y.start) is ∙ sealed (λ y. y.start) p.start c x refl) ∙ find_without p.start x.start h.processes off ∙ e);
         unpivoted = λ n q e past r i mine.
             let (x, at, is) = in_map (committed_under p.start c) r h.log i in
-            ap (λ y. y.pivot) is ∙ sealed_pivot p.start c x ∙ o.unpivoted n q (from_without p.start n h.processes q e).1 past x at (sym (ap (λ y. y.start) is ∙ sealed_start p.start c x) ∙ mine);
+            ap (λ y. y.pivot) is ∙ sealed (λ y. y.pivot) p.start c x refl ∙ o.unpivoted n q (from_without p.start n h.processes q e).1 past x at (sym (ap (λ y. y.start) is ∙ sealed (λ y. y.start) p.start c x refl) ∙ mine);
       }
 
   owned_undone : (M : Meaning S) (h : Hall S) → Owned h → (n : ℕ) (z : Split) → Last n h.log z → Owned (Rattle.protocol.specs.StepFunction.undone M h z).hall
@@ -182,14 +167,10 @@ module _ {S : Type 0} where
 
   -- a process that withdraws and has nothing to take back has no record
   none_left : (h : Hall S) → Owned h → (p : Process) → find p.start h.processes ≡ Some p → past_pivot p.standing ≡ false → returnable p.start h.log ≡ None → NotOf p.start h.log
-  none_left h o p is e none = ⊎_elim (λ x. x) (λ piv. absurd (both_ways (pivoted h.log p.start) (clear h.log (o.unpivoted p.start p is e)) piv)) (subst (LooseIs p.start h.log) none (loose_is p.start h.log))
+  none_left h o p is e none = none_own p.start h.log (none_any (λ r. owned p.start r && r.pivot) h.log clear) none
     where
-      and_false : (a b : Bool) → (a ≡ true → b ≡ false) → (a && b) ≡ false
-      and_false true b f = f refl
-      and_false false b f = refl
-
-      clear : (log : List Record) → ((r : Record) → In r log → r.start ≡ p.start → r.pivot ≡ false) → pivoted log p.start ≡ false
-      clear log f = Rattle.protocol.proofs.Members.none_any (λ r. owned p.start r && r.pivot) log (λ r i. and_false (owned p.start r) r.pivot (λ t. f r i (eqb-true r.start p.start t)))
+      clear : (r : Record) → In r h.log → (owned p.start r && r.pivot) ≡ false
+      clear r i = ⊎_elim (λ t. and_right _ _ (o.unpivoted p.start p is e r i (eqb-true r.start p.start t))) (λ f. and_left _ _ f) (cases_Bool (owned p.start r))
 
   owned_outcome : (M : Meaning S) (h : Hall S) → Bounded h → Owned h → (c : Call) → Owned (outcome M h c).hall
   owned_outcome M h b o = cases M h (λ c x. Owned x.hall) record {
@@ -244,12 +225,12 @@ module _ {S : Type 0} where
     bounded = record { given = omega arith; active = omega arith; committed = omega arith; rising = tt; starts = tt };
     rooms = record {
       programs = (omega arith, (omega arith, (omega arith, (omega arith, (omega arith, (omega arith, (omega arith, (omega arith, tt))))))));
-      actives = λ n q e. absurd (none_some e);
+      actives = λ n q e. absurd (none-some _ e);
       budget = omega arith;
     };
     low = λ r i. elim i [ ];
     active = λ r i. elim i [ ];
-    unpivoted = λ n q e. absurd (none_some e);
+    unpivoted = λ n q e. absurd (none-some _ e);
   }
 
   pub rising : (h : Hall S) → ∥ Held h ∥₁ → Pairwise (λ a b. a.start < b.start) h.processes

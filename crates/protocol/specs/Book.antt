@@ -1,18 +1,19 @@
 -- The book: what a hall has kept, as far as callers can tell. It is fed with calls and their answers, and with nothing else.
-use Rattle.std.specs.Prelude.{ℕ, Bool, true, false, cond, not, List, [], ◌∷◌, ◌++◌, map, replicate, Some, None, filter, Option, ◌==◌, slice_set}
+use Rattle.std.specs.Prelude.{ℕ, Bool, true, false, cond, not, List, [], ◌∷◌, ◌++◌, map, replicate, Some, None, filter, Option, ◌==◌, slice_set, Ok, Err, find}
 use Rattle.activity.specs.declared.Activity.{Activity}
 use Rattle.protocol.specs.declared.record.Record.{Record}
 use Rattle.protocol.specs.declared.answer.Turn.{Turn}
 use Rattle.protocol.specs.declared.answer.Turn.TheVariants as turns
-use Rattle.protocol.specs.declared.answer.Answer.{Answer}
-use Rattle.protocol.specs.declared.answer.Answer.TheVariants.{Loaded, Opened, Cancelled, Stepped, Refused}
+use Rattle.protocol.specs.Answer.{Answer}
+use Rattle.protocol.specs.declared.answer.Served.TheVariants.{Loaded, Opened, Cancelled, Stepped}
 use Rattle.program.specs.Grammar.{Body}
 use Rattle.program.specs.Positions.{Position, into}
 use Rattle.protocol.specs.Ahead.{Next, nothing, plain, crossing, next}
 use Rattle.protocol.specs.Log.{owned, dropped, last_of, committed_under}
 use Rattle.protocol.specs.Hall.{beginning}
 use Rattle.protocol.specs.declared.scan.Request.{Request}
-use Rattle.protocol.specs.Options.{when, else}
+use Rattle.std.specs.Bool.{then_some}
+use Rattle.std.specs.Option.{option_or}
 use Rattle.protocol.specs.Call.{Call, loading, installing, opening, stepping, cancelling}
 use Rattle.protocol.specs.Letters.{call_of}
 
@@ -31,8 +32,7 @@ abbrev pub empty : Book
 empty = record { programs = replicate 8 None; entries = []; kept = [] }
 
 abbrev pub seek : ℕ → List Entry → Option Entry
-seek n [] = None
-seek n (e ∷ es) = cond (e.start == n) (Some e) (seek n es)
+seek n es = find (λ e. e.start == n) es
 
 abbrev pub struck : ℕ → List Entry → List Entry
 struck n es = filter (λ e. not (e.start == n)) es
@@ -67,25 +67,25 @@ on_turn b e (turns.Committed c) = record { programs = b.programs; entries = stru
 
 abbrev pub on_step : Book → Option Entry → Answer → Book
 on_step b None a = b
-on_step b (Some e) Loaded = b
-on_step b (Some e) (Opened n) = b
-on_step b (Some e) Cancelled = b
-on_step b (Some e) (Stepped t) = on_turn b e t
-on_step b (Some e) (Refused r) = b
+on_step b (Some e) (Ok Loaded) = b
+on_step b (Some e) (Ok (Opened n)) = b
+on_step b (Some e) (Ok Cancelled) = b
+on_step b (Some e) (Ok (Stepped t)) = on_turn b e t
+on_step b (Some e) (Err r) = b
 
 abbrev pub on_load : Book → ℕ → Body → Answer → Book
-on_load b k p Loaded = record { programs = slice_set b.programs k (Some p); entries = b.entries; kept = b.kept }
-on_load b k p (Opened n) = b
-on_load b k p Cancelled = b
-on_load b k p (Stepped t) = b
-on_load b k p (Refused r) = b
+on_load b k p (Ok Loaded) = record { programs = slice_set b.programs k (Some p); entries = b.entries; kept = b.kept }
+on_load b k p (Ok (Opened n)) = b
+on_load b k p (Ok Cancelled) = b
+on_load b k p (Ok (Stepped t)) = b
+on_load b k p (Err r) = b
 
 abbrev pub on_open : Book → ℕ → Answer → Book
-on_open b k Loaded = b
-on_open b k (Opened n) = with_entries b (b.entries ++ record { start = n; place = k; at = beginning b.programs k } ∷ [])
-on_open b k Cancelled = b
-on_open b k (Stepped t) = b
-on_open b k (Refused r) = b
+on_open b k (Ok Loaded) = b
+on_open b k (Ok (Opened n)) = with_entries b (b.entries ++ record { start = n; place = k; at = beginning b.programs k } ∷ [])
+on_open b k (Ok Cancelled) = b
+on_open b k (Ok (Stepped t)) = b
+on_open b k (Err r) = b
 
 abbrev pub noted : Book → Call → Answer → Book
 noted b (loading k p w) a = on_load b k p a
@@ -97,13 +97,13 @@ noted b (cancelling n) a = b
 -- what the letter and the number of a scan record say; all else says nothing that the book notes
 abbrev pub answer_told : ℕ → ℕ → Option Answer
 answer_told l n =
-    else (when (l == 68) (Stepped (turns.Done n)))
-    (else (when (l == 85) (Stepped (turns.Undone n)))
-    (else (when (l == 65) (Stepped turns.Restarted))
-    (else (when (l == 78) (Stepped (turns.Next n)))
-    (else (when (l == 71) (Stepped turns.Gone))
-    (else (when (l == 75) (Stepped (turns.Committed n)))
-    (when (l == 79) (Opened n)))))))
+    option_or (then_some (l == 68) (Ok (Stepped (turns.Done n))))
+    (option_or (then_some (l == 85) (Ok (Stepped (turns.Undone n))))
+    (option_or (then_some (l == 65) (Ok (Stepped turns.Restarted)))
+    (option_or (then_some (l == 78) (Ok (Stepped (turns.Next n))))
+    (option_or (then_some (l == 71) (Ok (Stepped turns.Gone)))
+    (option_or (then_some (l == 75) (Ok (Stepped (turns.Committed n))))
+    (then_some (l == 79) (Ok (Opened n))))))))
 
 abbrev pub noted_if : Book → Option Call → Option Answer → Book
 noted_if b None a = b

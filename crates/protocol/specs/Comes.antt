@@ -1,5 +1,5 @@
 -- What each call may come to, sentence by sentence; that each comes to exactly one thing is proved.
-use Rattle.std.specs.Prelude.{◌≡◌, ℕ, suc, ◌+◌, ◌*◌, ◌<◌, ◌≤◌, true, false, List, [], ◌∷◌, length, Some, None, Option, ◌≢◌, slice_index_or}
+use Rattle.std.specs.Prelude.{◌≡◌, ℕ, suc, ◌+◌, ◌*◌, ◌<◌, ◌≤◌, true, false, List, [], ◌∷◌, length, Some, None, Option, ◌≢◌, slice_index_or, Ok, Err}
 use Rattle.std.specs.List.{AllByRecursion}
 use Rattle.station.specs.Meaning.{Meaning}
 use Rattle.program.specs.declared.command.Kind.{Kind}
@@ -8,8 +8,8 @@ use Rattle.program.specs.declared.command.Step.{Step}
 use Rattle.program.specs.declared.refusal.Refusal as text
 use Rattle.program.specs.Grammar.{Body, body_steps, Yields}
 use Rattle.program.specs.Outcome.{OutcomeBy}
-use Rattle.protocol.specs.declared.answer.Answer.{Answer}
-use Rattle.protocol.specs.declared.answer.Answer.TheVariants.{Loaded, Opened, Cancelled, Stepped, Refused}
+use Rattle.protocol.specs.Answer.{Answer}
+use Rattle.protocol.specs.declared.answer.Served.TheVariants.{Loaded, Opened, Cancelled, Stepped}
 use Rattle.protocol.specs.declared.answer.Refusal.{Refusal}
 use Rattle.protocol.specs.declared.answer.Refusal.TheVariants.{BadText, NoPlace, Busy, NoActivity, WrongKind, NotLoaded, Full, NoNumber, NoRoom, NoProcess, IsPastPivot, IsWithdrawing, LongList, UnknownKind}
 use Rattle.protocol.specs.declared.answer.Turn.{Turn}
@@ -57,34 +57,34 @@ module _ {S : Type 0} (M : Meaning S) where
   -- from the hall h the call comes to a hall and an answer
   pub data Comes (h : Hall S) : Call → Hall S → Answer → Type 0 where
     -- loading
-    load_nowhere : {k : ℕ} {b : Body} {w : IsProgram b} → 7 < k → Comes h (loading k b w) h (Refused NoPlace)
-    load_busy : {k : ℕ} {b : Body} {w : IsProgram b} (q : Process) → k ≤ 7 → In q h.processes → q.place ≡ k → Comes h (loading k b w) h (Refused Busy)
-    load_unfit : {k : ℕ} {b : Body} {w : IsProgram b} {r : Refusal} → k ≤ 7 → Unused h k → Unfit 0 (body_steps b) r → Comes h (loading k b w) h (Refused r)
-    loads : {k : ℕ} {b : Body} {w : IsProgram b} → k ≤ 7 → Unused h k → AllByRecursion Fits (body_steps b) → Comes h (loading k b w) (with_program h k b) Loaded
+    load_nowhere : {k : ℕ} {b : Body} {w : IsProgram b} → 7 < k → Comes h (loading k b w) h (Err NoPlace)
+    load_busy : {k : ℕ} {b : Body} {w : IsProgram b} (q : Process) → k ≤ 7 → In q h.processes → q.place ≡ k → Comes h (loading k b w) h (Err Busy)
+    load_unfit : {k : ℕ} {b : Body} {w : IsProgram b} {r : Refusal} → k ≤ 7 → Unused h k → Unfit 0 (body_steps b) r → Comes h (loading k b w) h (Err r)
+    loads : {k : ℕ} {b : Body} {w : IsProgram b} → k ≤ 7 → Unused h k → AllByRecursion Fits (body_steps b) → Comes h (loading k b w) (with_program h k b) (Ok Loaded)
     -- installing: reading and loading in one
-    install_no_program : {k : ℕ} {t : List ℕ} {b : Body} {e : text.Refusal} {refused : OutcomeBy t b (Some e)} → Comes h (installing k t b (Some e) refused) h (Refused (BadText e))
+    install_no_program : {k : ℕ} {t : List ℕ} {b : Body} {e : text.Refusal} {refused : OutcomeBy t b (Some e)} → Comes h (installing k t b (Some e) refused) h (Err (BadText e))
     installs : {k : ℕ} {t : List ℕ} {b : Body} {read : Yields t b} {g : Hall S} {a : Answer} → Comes h (loading k b (t, read)) g a → Comes h (installing k t b None read) g a
     -- opening
-    open_nowhere : {k : ℕ} → 7 < k → Comes h (opening k) h (Refused NoPlace)
-    open_not_loaded : {k : ℕ} → k ≤ 7 → (IsLoaded h k → ⊥) → Comes h (opening k) h (Refused NotLoaded)
-    open_full : {k : ℕ} → k ≤ 7 → IsLoaded h k → 16 ≤ length h.processes → Comes h (opening k) h (Refused Full)
-    open_no_number : {k : ℕ} → k ≤ 7 → IsLoaded h k → length h.processes < 16 → 65535 ≤ h.given → Comes h (opening k) h (Refused NoNumber)
-    open_no_room : {k : ℕ} → k ≤ 7 → IsLoaded h k → length h.processes < 16 → h.given < 65535 → 1024 < records_at_most h → Comes h (opening k) h (Refused NoRoom)
-    opens : {k : ℕ} → k ≤ 7 → IsLoaded h k → length h.processes < 16 → h.given < 65535 → records_at_most h ≤ 1024 → Comes h (opening k) (with_process h k) (Opened (suc h.given))
+    open_nowhere : {k : ℕ} → 7 < k → Comes h (opening k) h (Err NoPlace)
+    open_not_loaded : {k : ℕ} → k ≤ 7 → (IsLoaded h k → ⊥) → Comes h (opening k) h (Err NotLoaded)
+    open_full : {k : ℕ} → k ≤ 7 → IsLoaded h k → 16 ≤ length h.processes → Comes h (opening k) h (Err Full)
+    open_no_number : {k : ℕ} → k ≤ 7 → IsLoaded h k → length h.processes < 16 → 65535 ≤ h.given → Comes h (opening k) h (Err NoNumber)
+    open_no_room : {k : ℕ} → k ≤ 7 → IsLoaded h k → length h.processes < 16 → h.given < 65535 → 1024 < records_at_most h → Comes h (opening k) h (Err NoRoom)
+    opens : {k : ℕ} → k ≤ 7 → IsLoaded h k → length h.processes < 16 → h.given < 65535 → records_at_most h ≤ 1024 → Comes h (opening k) (with_process h k) (Ok (Opened (suc h.given)))
     -- stepping
-    step_nobody : {n : ℕ} → find n h.processes ≡ None → Comes h (stepping n) h (Refused NoProcess)
-    steps : {n : ℕ} {p : Process} {g : Hall S} {t : Turn} → find n h.processes ≡ Some p → Steps M h p g t → Comes h (stepping n) g (Stepped t)
+    step_nobody : {n : ℕ} → find n h.processes ≡ None → Comes h (stepping n) h (Err NoProcess)
+    steps : {n : ℕ} {p : Process} {g : Hall S} {t : Turn} → find n h.processes ≡ Some p → Steps M h p g t → Comes h (stepping n) g (Ok (Stepped t))
     -- cancelling
-    cancel_nobody : {n : ℕ} → find n h.processes ≡ None → Comes h (cancelling n) h (Refused NoProcess)
-    cancel_past_pivot : {n : ℕ} {p : Process} {d : Direction} → find n h.processes ≡ Some p → p.standing ≡ PastPivot d → Comes h (cancelling n) h (Refused IsPastPivot)
-    cancel_withdrawing : {n : ℕ} {p : Process} {a : Aim} → find n h.processes ≡ Some p → p.standing ≡ Withdrawing a → Comes h (cancelling n) h (Refused IsWithdrawing)
-    cancels : {n : ℕ} {p : Process} → find n h.processes ≡ Some p → p.standing ≡ Running → Comes h (cancelling n) (with_processes h (changed p.start (stand (Withdrawing End)) h.processes)) Cancelled
+    cancel_nobody : {n : ℕ} → find n h.processes ≡ None → Comes h (cancelling n) h (Err NoProcess)
+    cancel_past_pivot : {n : ℕ} {p : Process} {d : Direction} → find n h.processes ≡ Some p → p.standing ≡ PastPivot d → Comes h (cancelling n) h (Err IsPastPivot)
+    cancel_withdrawing : {n : ℕ} {p : Process} {a : Aim} → find n h.processes ≡ Some p → p.standing ≡ Withdrawing a → Comes h (cancelling n) h (Err IsWithdrawing)
+    cancels : {n : ℕ} {p : Process} → find n h.processes ≡ Some p → p.standing ≡ Running → Comes h (cancelling n) (with_processes h (changed p.start (stand (Withdrawing End)) h.processes)) (Ok Cancelled)
 
   -- ---- scan lists
   -- one record is worked: the call that it is, if its kind is known; the answer goes into its own last two fields
   pub data WorksOne (h : Hall S) (r : Request) : Hall S → Request → Type 0 where
     known : {c : Call} {g : Hall S} {a : Answer} → call_of r ≡ Some c → Comes h c g a → WorksOne h r g (written r a)
-    unknown : call_of r ≡ None → WorksOne h r h (written r (Refused UnknownKind))
+    unknown : call_of r ≡ None → WorksOne h r h (written r (Err UnknownKind))
 
   -- the records are worked from the first to the last
   pub data Works : Hall S → List Request → Hall S → List Request → Type 0 where

@@ -1,8 +1,8 @@
 -- That every step, call and scan list comes to exactly one of the things that the rules allow: the one that the functions compute.
-use Rattle.std.specs.Prelude.{◌≡◌, List, Option}
+use Rattle.std.specs.Prelude.{◌≡◌, List, Option, Ok}
 use Rattle.station.specs.Meaning.{Meaning}
-use Rattle.protocol.specs.declared.answer.Answer.{Answer}
-use Rattle.protocol.specs.declared.answer.Answer.TheVariants.{Stepped}
+use Rattle.protocol.specs.Answer.{Answer}
+use Rattle.protocol.specs.declared.answer.Served.TheVariants.{Stepped}
 use Rattle.protocol.specs.declared.answer.Refusal.{Refusal}
 use Rattle.protocol.specs.declared.answer.Turn.{Turn}
 use Rattle.protocol.specs.declared.scan.Request.{Request}
@@ -17,9 +17,9 @@ module _ {S : Type 0} where
   -- what the function gives is what the rules allow, and nothing else is
   pub record Exact (M : Meaning S) (h : Hall S) (p : Process) : Type 0 where
     pub turn : Turn
-    pub answers : (by_standing M h p p.standing).answer ≡ Stepped turn
+    pub answers : (by_standing M h p p.standing).answer ≡ Ok (Stepped turn)
     pub allowed : Steps M h p (by_standing M h p p.standing).hall turn
-    pub only : (g : Hall S) (t : Turn) → Steps M h p g t → answered g (Stepped t) ≡ by_standing M h p p.standing
+    pub only : (g : Hall S) (t : Turn) → Steps M h p g t → answered g (Ok (Stepped t)) ≡ by_standing M h p p.standing
 
   abbrev pub StepsExactly : Meaning S → Type 0
   StepsExactly M = (h : Hall S) (p : Process) → Exact M h p

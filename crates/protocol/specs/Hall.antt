@@ -1,8 +1,9 @@
 -- What a hall holds: the station, the log, the active processes, the programs by place, the last start number given and the last commit number.
 use Rattle.std.specs.Prelude.{ℕ, suc, min, Bool, true, false, cond, not, List, [], ◌∷◌, ◌++◌, map, replicate, Some, None, filter, Option, ◌==◌, slice_index_or, slice_set}
+use Rattle.std.specs.List as list
 use Rattle.activity.specs.declared.Activity.{Activity}
 use Rattle.protocol.specs.declared.record.Record.{Record}
-use Rattle.protocol.specs.declared.answer.Answer.{Answer}
+use Rattle.protocol.specs.Answer.{Answer}
 use Rattle.protocol.specs.declared.standing.Aim.TheVariants.{End}
 use Rattle.protocol.specs.declared.standing.Direction.{Direction}
 use Rattle.protocol.specs.declared.standing.Direction.TheVariants.{Forward, Back}
@@ -31,8 +32,7 @@ fresh s = record { station = s; log = []; processes = []; programs = replicate 8
 
 -- the process of a start number
 abbrev pub find : ℕ → List Process → Option Process
-find n [] = None
-find n (q ∷ qs) = cond (q.start == n) (Some q) (find n qs)
+find n ps = list.find (λ q. q.start == n) ps
 
 abbrev pub without : ℕ → List Process → List Process
 without n ps = filter (λ q. not (q.start == n)) ps

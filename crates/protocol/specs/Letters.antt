@@ -1,8 +1,8 @@
 -- The letters and numbers of scan records and answers.
-use Rattle.std.specs.Prelude.{ℕ, Option, ◌==◌}
+use Rattle.std.specs.Prelude.{ℕ, Option, ◌==◌, Ok, Err}
 use Rattle.program.specs.Refusals.{number_of}
-use Rattle.protocol.specs.declared.answer.Answer.{Answer}
-use Rattle.protocol.specs.declared.answer.Answer.TheVariants.{Loaded, Opened, Cancelled, Stepped, Refused}
+use Rattle.protocol.specs.Answer.{Answer}
+use Rattle.protocol.specs.declared.answer.Served.TheVariants.{Loaded, Opened, Cancelled, Stepped}
 use Rattle.protocol.specs.declared.answer.Layer.{Layer}
 use Rattle.protocol.specs.declared.answer.Layer.TheVariants as layers
 use Rattle.protocol.specs.declared.answer.Refusal.{Refusal}
@@ -10,12 +10,13 @@ use Rattle.protocol.specs.declared.answer.Refusal.TheVariants.{BadText, NoPlace,
 use Rattle.protocol.specs.declared.answer.Turn.{Turn}
 use Rattle.protocol.specs.declared.answer.Turn.TheVariants as turns
 use Rattle.protocol.specs.declared.scan.Request.{Request}
-use Rattle.protocol.specs.Options.{when, else}
+use Rattle.std.specs.Bool.{then_some}
+use Rattle.std.specs.Option.{option_or}
 use Rattle.protocol.specs.Call.{Call, opening, stepping, cancelling}
 
 -- the call that a scan record is, by its kind: O, S or X
 abbrev pub call_of : Request → Option Call
-call_of r = else (when (r.kind == 79) (opening r.operand)) (else (when (r.kind == 83) (stepping r.operand)) (when (r.kind == 88) (cancelling r.operand)))
+call_of r = option_or (then_some (r.kind == 79) (opening r.operand)) (option_or (then_some (r.kind == 83) (stepping r.operand)) (then_some (r.kind == 88) (cancelling r.operand)))
 
 -- the number of a refusal
 abbrev pub code : Refusal → ℕ
@@ -65,8 +66,8 @@ write_turn r (turns.Next k) = write r 78 k
 write_turn r (turns.Committed c) = write r 75 c
 
 abbrev pub written : Request → Answer → Request
-written r Loaded = r
-written r (Opened n) = write r 79 n
-written r Cancelled = write r 88 0
-written r (Stepped t) = write_turn r t
-written r (Refused f) = write r 33 (code f)
+written r (Ok Loaded) = r
+written r (Ok (Opened n)) = write r 79 n
+written r (Ok Cancelled) = write r 88 0
+written r (Ok (Stepped t)) = write_turn r t
+written r (Err f) = write r 33 (code f)

@@ -1,7 +1,7 @@
-pub mod Options
 pub mod Means
 pub mod Ahead
 pub mod Log
+pub mod Answer
 pub mod Hall
 pub mod Call
 pub mod Letters

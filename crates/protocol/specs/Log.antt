@@ -1,12 +1,8 @@
 -- The log: whose records, the last of one process, and the orderly run.
 use Rattle.std.specs.Prelude.{ℕ, Bool, false, cond, not, ◌&&◌, ◌||◌, List, [], ◌∷◌, ◌++◌, Some, None, filter, Option, ◌==◌, nat_le, nat_lt}
+use Rattle.std.specs.List.{list_any}
 use Rattle.serial.specs.Sorts.{sort}
 use Rattle.protocol.specs.declared.record.Record.{Record}
-
--- some element passes the test
-abbrev pub any : {X : Type 0} → (X → Bool) → List X → Bool
-any p [] = false
-any p (x ∷ xs) = p x || any p xs
 
 abbrev pub owned : ℕ → Record → Bool
 owned n r = r.start == n
@@ -50,17 +46,17 @@ dropped log (Some s) = removed s
 
 -- the process has a kept pivot
 abbrev pub pivoted : List Record → ℕ → Bool
-pivoted log n = any (λ r. owned n r && r.pivot) log
+pivoted log n = list_any (λ r. owned n r && r.pivot) log
 
 -- those up to the last pivot
 abbrev pub to_pivot : List Record → List Record
 to_pivot [] = []
-to_pivot (r ∷ rs) = cond (r.pivot || any (λ x. x.pivot) rs) (r ∷ to_pivot rs) []
+to_pivot (r ∷ rs) = cond (r.pivot || list_any (λ x. x.pivot) rs) (r ∷ to_pivot rs) []
 
 -- those after the last pivot, all if there is none
 abbrev pub from_pivot : List Record → List Record
 from_pivot [] = []
-from_pivot (r ∷ rs) = cond (any (λ x. x.pivot) rs) (from_pivot rs) (cond r.pivot rs (r ∷ rs))
+from_pivot (r ∷ rs) = cond (list_any (λ x. x.pivot) rs) (from_pivot rs) (cond r.pivot rs (r ∷ rs))
 
 abbrev pub committed_under : ℕ → ℕ → Record → Record
 committed_under n c r = cond (owned n r) record { start = r.start; activity = r.activity; answer = r.answer; commit = c; pivot = r.pivot } r

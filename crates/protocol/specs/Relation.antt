@@ -1,5 +1,6 @@
 -- What a step may come to, sentence by sentence.
 use Rattle.std.specs.Prelude.{◌≡◌, ℕ, suc, ◌<◌, ◌≤◌, Bool, true, false, ◌⊎◌, List, [], ◌∷◌, ◌++◌, map, Some, None, ◌≢◌}
+use Rattle.std.specs.List.{AllZip}
 use Rattle.activity.specs.declared.Activity.{Activity}
 use Rattle.protocol.specs.declared.record.Record.{Record}
 use Rattle.protocol.specs.declared.standing.Standing.{Standing}
@@ -23,13 +24,6 @@ In x (y ∷ ys) = (x ≡ y) ⊎ In x ys
 abbrev pub Before : {X : Type 0} → X → X → List X → Type 0
 Before a b [] = ⊥
 Before a b (x ∷ xs) = ((a ≡ x) × In b xs) ⊎ Before a b xs
-
--- two lists of one length, related element by element
-abbrev pub Each : (Process → Process → Type 0) → List Process → List Process → Type 0
-Each R [] [] = Unit {0}
-Each R [] (y ∷ ys) = ⊥
-Each R (x ∷ xs) [] = ⊥
-Each R (x ∷ xs) (y ∷ ys) = R x y × Each R xs ys
 
 -- withdrawing or going back
 abbrev pub Retreats : Standing → Type 0
@@ -97,7 +91,7 @@ module _ {S : Type 0} where
     pub least : (q : Process) → In q h.processes → (q.start ≢ p.start) → B q → n ≤ q.start
 
   abbrev pub Marked : Hall S → Process → (Process → Type 0) → List Process → Type 0
-  Marked h p B ps = Each (Marks p B) h.processes ps
+  Marked h p B ps = AllZip (Marks p B) h.processes ps
 
   -- the next step may be performed: nobody blocks
   pub data Free (M : Meaning S) (h : Hall S) (p : Process) : Bool → Activity → Position → Type 0 where

@@ -2,7 +2,7 @@
 use program::Refusal as TextRefusal;
 
 // Why a call is refused. A step that does not fit its station is named by its ordinal in the text.
-#[derive(Clone, Copy)]
+#[derive(Clone, Copy, Debug, PartialEq, Eq)]
 pub enum Refusal {
     // 1 to 6: the text that is to be installed is no program, by its own refusal
     BadText(TextRefusal),
@@ -35,7 +35,7 @@ pub enum Refusal {
 }
 
 // Which layer a refusal comes from: the text, the hall, or the station.
-#[derive(Clone, Copy)]
+#[derive(Clone, Copy, Debug, PartialEq, Eq)]
 pub enum Layer {
     Text,
     Hall,
@@ -44,7 +44,7 @@ pub enum Layer {
 
 // What a step came to, by its letter: D and the station's answer; F; W and the smallest start number that blocks; U and the
 // activity taken back; A, the process runs from the start again; G, it has left; N and the alternative; K and the commit number.
-#[derive(Clone, Copy)]
+#[derive(Clone, Copy, Debug, PartialEq, Eq)]
 pub enum Turn {
     Done(u32),
     Failed,
@@ -56,12 +56,15 @@ pub enum Turn {
     Committed(u32),
 }
 
-// The answer to a call.
-#[derive(Clone, Copy)]
-pub enum Answer {
+// What a call was served: a program was loaded or installed, a process opened under its start number, one cancelled, or a step
+// made.
+#[derive(Clone, Copy, Debug, PartialEq, Eq)]
+pub enum Served {
     Loaded,
     Opened(u16),
     Cancelled,
     Stepped(Turn),
-    Refused(Refusal),
 }
+
+// The answer to a call.
+pub type Answer = Result<Served, Refusal>;

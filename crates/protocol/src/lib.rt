@@ -7,7 +7,7 @@ mod scan;
 mod standing;
 mod theorems;
 
-pub use answer::{Answer, Layer, Refusal, Turn};
+pub use answer::{Answer, Layer, Refusal, Served, Turn};
 pub use record::Record;
 pub use scan::Request;
 pub use standing::{Aim, Direction, Standing};

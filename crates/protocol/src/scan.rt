@@ -1,7 +1,8 @@
 // Scan lists.
 
 // A record of a scan list: a call, by its kind (the byte of O, S or X) and operand, and in the last two fields its answer.
-#[derive(Clone, Copy)]
+// Kind, letter and number stay bytes and numbers: they are those of the lists that controllers hand over, which the rules fix.
+#[derive(Clone, Copy, Debug, PartialEq, Eq)]
 pub struct Request {
     pub kind: u8,
     pub operand: u16,

@@ -2,16 +2,12 @@
 use Rattle.std.proofs.Common.{◌≡◌, ℕ, ◌≤◌, Bool, true, false, cond, not, ◌||◌, eqb, List, [], ◌∷◌, ◌++◌, filter, refl, ap, ◌∙◌, arith}
 use Rattle.std.specs.List.Sorted.{IsPermutation}
 use Rattle.std.specs.List.{AllByRecursion}
-use Rattle.std.proofs.ByRecursion.{All-weaker, kept_by_passes, all_shuffled}
 use Rattle.std.proofs.lemmas.List.Sorted.{IsPermutation-refl, IsPermutation-cons, IsPermutation-trans, IsPermutation-swap}
 use Rattle.std.proofs.lemmas.Bool.{both_ways, leb-true, leb-false, le-leb, eqb-true}
 use Rattle.serial.specs.Sorts.{Pairwise, Total, Transitive, Sorted, insert, sort, by_rank, low_first, StableSort, StableSortByRank}
+use Rattle.serial.proofs.Lists.{all_weaker, all_permuted, all_pass, pairs_weaker, pairs_of}
 
 module _ {R : Type 0} where
-  pub pairwise_weaker : (P Q : R → R → Type 0) → ((a b : R) → P a b → Q a b) → (xs : List R) → Pairwise P xs → Pairwise Q xs
-  pairwise_weaker P Q f [] pairs = tt
-  pairwise_weaker P Q f (x ∷ xs) pairs = (All-weaker (P x) (Q x) (f x) xs pairs.0, pairwise_weaker P Q f xs pairs.1)
-
   -- ---- the same records
   pub insert_permutes : (first : R → R → Bool) (r : R) (xs : List R) → IsPermutation (r ∷ xs) (insert first r xs)
   insert_permutes first r [] = IsPermutation-refl (r ∷ [])
@@ -30,10 +26,10 @@ module _ {R : Type 0} where
       IsPermutation-trans (r ∷ rs) (r ∷ sort first rs) (insert first r (sort first rs)) (IsPermutation-cons r rs (sort first rs) (sort_permutes first rs)) (insert_permutes first r (sort first rs))
 
   pub all_insert : (P : R → Type 0) (first : R → R → Bool) (r : R) (xs : List R) → P r → AllByRecursion P xs → AllByRecursion P (insert first r xs)
-  all_insert P first r xs p all = all_shuffled P (r ∷ xs) (insert first r xs) (insert_permutes first r xs) (p, all)
+  all_insert P first r xs p all = all_permuted P (r ∷ xs) (insert first r xs) (insert_permutes first r xs) (p, all)
 
   pub all_sort : (P : R → Type 0) (first : R → R → Bool) (log : List R) → AllByRecursion P log → AllByRecursion P (sort first log)
-  all_sort P first log all = all_shuffled P log (sort first log) (sort_permutes first log) all
+  all_sort P first log all = all_permuted P log (sort first log) (sort_permutes first log) all
 
   -- ---- sorted
   module _ (first : R → R → Bool) (total : Total first) (transitive : Transitive first) where
@@ -42,7 +38,7 @@ module _ {R : Type 0} where
     insert_sorted r (x ∷ xs) sorted = go (first r x) refl (insert_sorted r xs sorted.1)
       where
         go : (b : Bool) → first r x ≡ b → Sorted first (insert first r xs) → Sorted first (cond b (r ∷ x ∷ xs) (x ∷ insert first r xs))
-        go true e rest = ((e, All-weaker (λ y. first x y ≡ true) (λ y. first r y ≡ true) (λ y. transitive r x y e) xs sorted.0), sorted)
+        go true e rest = ((e, all_weaker (λ y. first x y ≡ true) (λ y. first r y ≡ true) (λ y. transitive r x y e) xs sorted.0), sorted)
         go false e rest = (all_insert (λ y. first x y ≡ true) first r xs (total r x e) sorted.0, rest)
 
     pub sort_sorted : (log : List R) → Sorted first (sort first log)
@@ -90,19 +86,11 @@ module _ {R : Type 0} where
     pub rank_transitive : Transitive (by_rank rank)
     rank_transitive a b c e f = le-leb (rank a) (rank c) (omega (arith, leb-true (rank a) (rank b) e, leb-true (rank b) (rank c) f))
 
-    all_pairs : (P : R → R → Type 0) → ((a b : R) → P a b) → (xs : List R) → Pairwise P xs
-    all_pairs P f [] = tt
-    all_pairs P f (x ∷ xs) = (all (P x) (f x) xs, all_pairs P f xs)
-      where
-        all : (Q : R → Type 0) → ((y : R) → Q y) → (ys : List R) → AllByRecursion Q ys
-        all Q g [] = tt
-        all Q g (y ∷ ys) = (g y, all Q g ys)
-
     pub sort_by_rank_sorts : (log : List R) → StableSortByRank rank log (sort (by_rank rank) log)
     sort_by_rank_sorts log = record {
       permuted = sort_permutes (by_rank rank) log;
-      sorted = pairwise_weaker (λ a b. by_rank rank a b ≡ true) (λ a b. rank a ≤ rank b) (λ a b e. leb-true (rank a) (rank b) e) (sort (by_rank rank) log) (sort_sorted (by_rank rank) rank_total rank_transitive log);
-      stable = λ n. sort_stable (by_rank rank) (λ r. eqb (rank r) n) log (all_pairs
+      sorted = pairs_weaker (λ a b. by_rank rank a b ≡ true) (λ a b. rank a ≤ rank b) (λ a b e. leb-true (rank a) (rank b) e) (sort (by_rank rank) log) (sort_sorted (by_rank rank) rank_total rank_transitive log);
+      stable = λ n. sort_stable (by_rank rank) (λ r. eqb (rank r) n) log (pairs_of
           (λ a b. eqb (rank a) n ≡ true → eqb (rank b) n ≡ true → by_rank rank a b ≡ true)
           (λ a b e f. le-leb (rank a) (rank b) (omega (arith, eqb-true (rank a) n e, eqb-true (rank b) n f))) log);
     }
@@ -136,4 +124,4 @@ module _ {R : Type 0} where
 
         go : (b : Bool) → low r ≡ b → insert (low_first low) r (lows ++ highs) ≡ cond b (r ∷ lows) lows ++ cond (not b) (r ∷ highs) highs
         go true e = insert_low r (lows ++ highs) e
-        go false e = insert_high r lows highs e (kept_by_passes low rs) (kept_by_passes (λ x. not (low x)) rs)
+        go false e = insert_high r lows highs e (all_pass low rs) (all_pass (λ x. not (low x)) rs)

@@ -5,7 +5,8 @@ use Rattle.serial.specs.Sorts.{low_first, by_rank}
 use Rattle.serial.specs.Replay.{Replays, Closed, Swap}
 use Rattle.serial.specs.Actions.{Meaning, KeepsGood, Commutes, Restores, Performs}
 use Rattle.serial.specs.Statements.{SortingReplays, SortingByRankReplays, LowOnesFirstReplays, TakingBackReplays}
-use Rattle.serial.proofs.Sorting.{pairwise_weaker, sort_low_first}
+use Rattle.serial.proofs.Lists.{pairs_weaker}
+use Rattle.serial.proofs.Sorting.{sort_low_first}
 use Rattle.serial.proofs.Replaying.{sort_replays, take_back}
 
 module _ {A S : Type 0} (M : Meaning A S) (good : S → Type 0) (closed : KeepsGood M good) (commutes : Commutes M good) {R : Type 0} where
@@ -24,13 +25,13 @@ module _ {A S : Type 0} (M : Meaning A S) (good : S → Type 0) (closed : KeepsG
   pub sorting_by_rank_replays : SortingByRankReplays M good R
   sorting_by_rank_replays action answer rank log s t start free =
       sorting_replays action answer (by_rank rank) log s t start
-      (pairwise_weaker _ (λ a b. by_rank rank a b ≡ false → M.conflict (action a) (action b) ≡ false) (λ a b f e. f (leb-false (rank a) (rank b) e)) log free)
+      (pairs_weaker _ (λ a b. by_rank rank a b ≡ false → M.conflict (action a) (action b) ≡ false) (λ a b f e. f (leb-false (rank a) (rank b) e)) log free)
 
   pub low_ones_first_replays : LowOnesFirstReplays M good R
   low_ones_first_replays action answer low log s t start free replay =
       subst (λ l. Replays (Performs M action answer) l s t) (sort_low_first low log)
       (sorting_replays action answer (low_first low) log s t start
-      (pairwise_weaker _ (λ a b. low_first low a b ≡ false → M.conflict (action a) (action b) ≡ false) (λ a b f e. let (x, y) = or_parts (low a) (not (low b)) e in f x (not-false (low b) y)) log free)
+      (pairs_weaker _ (λ a b. low_first low a b ≡ false → M.conflict (action a) (action b) ≡ false) (λ a b f e. let (x, y) = or_parts (low a) (not (low b)) e in f x (not-false (low b) y)) log free)
       replay)
 
   pub taking_back_replays : Restores M good → TakingBackReplays M good R

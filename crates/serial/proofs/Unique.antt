@@ -1,10 +1,10 @@
 -- There is one serial order.
 use Rattle.std.proofs.Common.{◌≡◌, ℕ, true, cond, eqb, List, [], ◌∷◌, length, sym, refl, ap, ◌∙◌, subst, ⊎_elim, arith}
 use Rattle.std.specs.List.{AllByRecursion}
-use Rattle.std.proofs.ByRecursion.{All-weaker, all_kept_by}
 use Rattle.std.proofs.lemmas.Bool.{eq-eqb, ne_eqb, cases_eq}
 use Rattle.serial.specs.Sorts.{Sorted, records_of}
 use Rattle.serial.specs.Statements.{OneSerialOrder}
+use Rattle.serial.proofs.Lists.{all_weaker, all_kept}
 
 module _ {R : Type 0} where
   heads : {x y : R} {xs ys : List R} → x ∷ xs ≡ y ∷ ys → x ≡ y
@@ -27,14 +27,14 @@ module _ {R : Type 0} where
   one_serial_order first owner [] (y ∷ ys) sorted sorted' same ties = absurd (cons≢nil (sym (own_first owner (owner y) y ys refl) ∙ sym (same (owner y))))
   one_serial_order first owner (x ∷ xs) [] sorted sorted' same ties = absurd (cons≢nil (sym (own_first owner (owner x) x xs refl) ∙ same (owner x)))
   one_serial_order first owner (x ∷ xs) (y ∷ ys) sorted sorted' same ties =
-      let rest = one_serial_order first owner xs ys sorted.1 sorted'.1 others (All-weaker _ (λ a. AllByRecursion (λ b. first a b ≡ true → first b a ≡ true → owner a ≡ owner b) ys) (λ a all. all.1) xs ties.1) in
+      let rest = one_serial_order first owner xs ys sorted.1 sorted'.1 others (all_weaker _ (λ a. AllByRecursion (λ b. first a b ≡ true → first b a ≡ true → owner a ≡ owner b) ys) (λ a all. all.1) xs ties.1) in
       λ i. alike i ∷ rest i
     where
       -- the first of its owner's records that does not stand first in the other log stands behind the first record there
       behind : (a b : R) (rest rest' : List R) → Sorted first (b ∷ rest') → records_of owner (owner a) (a ∷ rest) ≡ records_of owner (owner a) (b ∷ rest') → (owner b ≡ owner a → ⊥) → first b a ≡ true
       behind a b rest rest' order e apart =
           let found = sym (other_first owner (owner a) b rest' apart) ∙ sym e ∙ own_first owner (owner a) a rest refl in
-          (subst (AllByRecursion (λ c. first b c ≡ true)) found (all_kept_by (λ r. eqb (owner r) (owner a)) (λ c. first b c ≡ true) rest' order.0)).0
+          (subst (AllByRecursion (λ c. first b c ≡ true)) found (all_kept (λ c. first b c ≡ true) (λ r. eqb (owner r) (owner a)) rest' order.0)).0
 
       -- so the first records of both logs tie, or have one owner
       owners : owner x ≡ owner y

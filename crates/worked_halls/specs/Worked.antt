@@ -1,5 +1,5 @@
 -- Halls worked through by hand: each call and scan list with what is told of it.
-use Rattle.std.specs.Prelude.{refl, List, [], ◌∷◌, map, ℕ}
+use Rattle.std.specs.Prelude.{refl, List, [], ◌∷◌, map, ℕ, Ok, Err}
 use Rattle.std.proofs.Common.{lit≤}
 use Rattle.activity.specs.declared.Activity.{Activity}
 use Rattle.program.specs.Grammar.{Body, finish, compensatable, pivot, row, or_else}
@@ -12,8 +12,8 @@ use Rattle.baggage.specs.Lanes.{lanes_meaning, first_lanes}
 use Rattle.baggage.specs.Register.{register_meaning, first_register}
 use Rattle.protocol.specs.declared.answer.Turn.{Turn}
 use Rattle.protocol.specs.declared.answer.Turn.TheVariants.{Done, Failed, Wait, Undone, Restarted, Gone, Next, Committed}
-use Rattle.protocol.specs.declared.answer.Answer.{Answer}
-use Rattle.protocol.specs.declared.answer.Answer.TheVariants.{Loaded, Opened, Cancelled, Stepped, Refused}
+use Rattle.protocol.specs.Answer.{Answer}
+use Rattle.protocol.specs.declared.answer.Served.TheVariants.{Loaded, Opened, Cancelled, Stepped}
 use Rattle.protocol.specs.declared.answer.Refusal.{Refusal}
 use Rattle.protocol.specs.declared.answer.Refusal.TheVariants.{NoPlace, Busy, NotLoaded, NoProcess, IsPastPivot, IsWithdrawing}
 use Rattle.protocol.specs.declared.scan.Request.{Request}
@@ -89,7 +89,7 @@ answered c a = (call c, called c a)
 
 -- a step of the process of a start number, and what it comes to
 abbrev pub step : ℕ → Turn → Line
-step n t = answered (stepping n) (Stepped t)
+step n t = answered (stepping n) (Ok (Stepped t))
 
 -- an order to withdraw, and its answer
 abbrev pub cancel : ℕ → Answer → Line
@@ -97,7 +97,7 @@ cancel n a = answered (cancelling n) a
 
 -- a call that is refused, and why
 abbrev pub refused : Call → Refusal → Line
-refused c r = answered c (Refused r)
+refused c r = answered c (Err r)
 
 -- a scan list, and its records afterwards
 abbrev pub scans : List Request → List Request → Line
@@ -105,11 +105,11 @@ scans rs ws = (scan rs, scan_served ws)
 
 -- one program, loaded at 0, runs as process 1
 abbrev pub alone : {b : Body} → IsProgram b → List Line → List Line
-alone {b} read ls = answered (loading 0 b read) Loaded ∷ answered (opening 0) (Opened 1) ∷ ls
+alone {b} read ls = answered (loading 0 b read) (Ok Loaded) ∷ answered (opening 0) (Ok (Opened 1)) ∷ ls
 
 -- two programs, loaded at 0 and 1, run as processes 1 and 2
 abbrev pub together : {a b : Body} → IsProgram a → IsProgram b → List Line → List Line
-together {a} {b} read too ls = answered (loading 0 a read) Loaded ∷ answered (loading 1 b too) Loaded ∷ answered (opening 0) (Opened 1) ∷ answered (opening 1) (Opened 2) ∷ ls
+together {a} {b} read too ls = answered (loading 0 a read) (Ok Loaded) ∷ answered (loading 1 b too) (Ok Loaded) ∷ answered (opening 0) (Ok (Opened 1)) ∷ answered (opening 1) (Ok (Opened 2)) ∷ ls
 
 -- the calls and scan lists, made of a fresh hall over that station, run so by the rules
 abbrev pub ComesOut : List Line → Type 0
@@ -139,7 +139,7 @@ withdrawal_cascades =
     together take_one_read give_one_read
     (step 1 (Done 0)
     ∷ step 2 (Done 0)
-    ∷ cancel 1 Cancelled
+    ∷ cancel 1 (Ok Cancelled)
     ∷ step 1 (Wait 2)
     ∷ step 2 (Undone 1)
     ∷ step 1 (Undone 0)
@@ -156,7 +156,7 @@ past_pivot_stays =
     ∷ step 2 (Wait 1)
     ∷ step 1 (Committed 1)
     ∷ step 2 (Done 0)
-    ∷ cancel 2 (Refused IsPastPivot)
+    ∷ cancel 2 (Err IsPastPivot)
     ∷ step 2 (Done 0)
     ∷ step 2 (Committed 2)
     ∷ [])
@@ -212,8 +212,8 @@ told kind operand letter number = record { kind = kind; operand = operand; lette
 -- O is 79, S is 83, X is 88; the letters of the answers: O 79, D 68, W 87, U 85, A 65, G 71, K 75, F 70, X 88, ! 33
 abbrev pub scan_list_answered : List Line
 scan_list_answered =
-    answered (loading 0 take_one take_one_read) Loaded
-    ∷ answered (loading 1 give_one give_one_read) Loaded
+    answered (loading 0 take_one take_one_read) (Ok Loaded)
+    ∷ answered (loading 1 give_one give_one_read) (Ok Loaded)
     ∷ scans
     (asks 79 0 ∷ asks 79 1 ∷ asks 83 1 ∷ asks 83 2 ∷ asks 83 2 ∷ asks 88 1 ∷ asks 88 1 ∷ asks 83 1 ∷ asks 83 2 ∷ asks 83 1 ∷ asks 83 1 ∷ asks 83 2 ∷ asks 83 2 ∷ asks 83 2 ∷ asks 83 3 ∷ asks 79 8 ∷ asks 79 2 ∷ asks 76 0 ∷ [])
     (told 79 0 79 1 ∷ told 79 1 79 2 ∷ told 83 1 68 0 ∷ told 83 2 68 0 ∷ told 83 2 87 1 ∷ told 88 1 88 0 ∷ told 88 1 33 17 ∷ told 83 1 87 2 ∷ told 83 2 85 1 ∷ told 83 1 85 0 ∷ told 83 1 71 0 ∷ told 83 2 65 0 ∷ told 83 2 70 0 ∷ told 83 2 71 0 ∷ told 83 3 33 15 ∷ told 79 8 33 7 ∷ told 79 2 33 11 ∷ told 76 0 33 19 ∷ [])
@@ -226,11 +226,11 @@ calls_refused =
     ∷ refused (opening 0) NotLoaded
     ∷ refused (stepping 1) NoProcess
     ∷ refused (cancelling 1) NoProcess
-    ∷ answered (loading 0 take_one take_one_read) Loaded
-    ∷ answered (opening 0) (Opened 1)
+    ∷ answered (loading 0 take_one take_one_read) (Ok Loaded)
+    ∷ answered (opening 0) (Ok (Opened 1))
     ∷ refused (loading 0 give_one give_one_read) Busy
-    ∷ cancel 1 Cancelled
-    ∷ cancel 1 (Refused IsWithdrawing)
+    ∷ cancel 1 (Ok Cancelled)
+    ∷ cancel 1 (Err IsWithdrawing)
     ∷ []
 
 pub record WorkedHalls : Type 0 where

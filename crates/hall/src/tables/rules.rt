@@ -1,8 +1,8 @@
 // The rules of a step.
-ghost use Rattle.std.specs.Prelude.{◌≡◌, ◌+◌, ◌<◌, map, take, drop, vec_len, slice_index_or};
+ghost use Rattle.std.specs.Prelude.{◌≡◌, ◌+◌, ◌<◌, map, take, drop, Ok, vec_len, slice_index_or};
 ghost use Rattle.serial.specs.Sorts.{Pairwise};
 ghost use Rattle.program.specs.Positions.{onward as led_on, alternative_of};
-ghost use Rattle.protocol.specs.declared.answer.Answer.TheVariants.{Stepped};
+ghost use Rattle.protocol.specs.declared.answer.Served.TheVariants.{Stepped};
 ghost use Rattle.protocol.specs.Ahead.{nothing, plain, crossing};
 ghost use Rattle.protocol.specs.Log.{committed_under, returnable};
 ghost use Rattle.protocol.specs.Hall.{answered, failed, standing_after};
@@ -45,7 +45,7 @@ impl<S: Station> Tables<S> {
         requires at { p ≡ slice_index_or self.old.processes.items i p }
         requires rising { Pairwise (λ a b. a.start < b.start) (model S.Station.view self.old).processes }
         requires room { vec_len self.old.log < 1024 }
-        ensures { answered (model S.Station.view self.new) (Stepped result) ≡ performed (model S.Station.view self.old) (seen self.old.programs p) pivot activity (led_on (here self.old.programs p)) (S.Station.meaning.performed (S.Station.view self.old.station) activity) }
+        ensures { answered (model S.Station.view self.new) (Ok (Stepped result)) ≡ performed (model S.Station.view self.old) (seen self.old.programs p) pivot activity (led_on (here self.old.programs p)) (S.Station.meaning.performed (S.Station.view self.old.station) activity) }
     {
         let to = self.onward(p);
         match self.station.perform(activity) {
@@ -73,7 +73,7 @@ impl<S: Station> Tables<S> {
         requires at { p ≡ slice_index_or self.old.processes.items i p }
         requires rising { Pairwise (λ a b. a.start < b.start) (model S.Station.view self.old).processes }
         requires room { vec_len self.old.log < 1024 }
-        ensures { answered (model S.Station.view self.new) (Stepped result) ≡ forward S.Station.meaning (model S.Station.view self.old) (seen self.old.programs p) (plain activity (led_on (here self.old.programs p))) }
+        ensures { answered (model S.Station.view self.new) (Ok (Stepped result)) ≡ forward S.Station.meaning (model S.Station.view self.old) (seen self.old.programs p) (plain activity (led_on (here self.old.programs p))) }
     {
         let c = Claim::Plain {
             start: p.start,
@@ -95,7 +95,7 @@ impl<S: Station> Tables<S> {
         requires at { p ≡ slice_index_or self.old.processes.items i p }
         requires rising { Pairwise (λ a b. a.start < b.start) (model S.Station.view self.old).processes }
         requires room { vec_len self.old.log < 1024 }
-        ensures { answered (model S.Station.view self.new) (Stepped result) ≡ pivot_unless_met S.Station.meaning (model S.Station.view self.old) (seen self.old.programs p) activity (led_on (here self.old.programs p)) }
+        ensures { answered (model S.Station.view self.new) (Ok (Stepped result)) ≡ pivot_unless_met S.Station.meaning (model S.Station.view self.old) (seen self.old.programs p) activity (led_on (here self.old.programs p)) }
     {
         let c = Claim::Pivot {
             start: p.start,
@@ -118,7 +118,7 @@ impl<S: Station> Tables<S> {
         requires at { p ≡ slice_index_or self.old.processes.items i p }
         requires rising { Pairwise (λ a b. a.start < b.start) (model S.Station.view self.old).processes }
         requires room { vec_len self.old.log < 1024 }
-        ensures { answered (model S.Station.view self.new) (Stepped result) ≡ forward S.Station.meaning (model S.Station.view self.old) (seen self.old.programs p) (crossing activity (led_on (here self.old.programs p))) }
+        ensures { answered (model S.Station.view self.new) (Ok (Stepped result)) ≡ forward S.Station.meaning (model S.Station.view self.old) (seen self.old.programs p) (crossing activity (led_on (here self.old.programs p))) }
     {
         let c = Claim::Alone {
             start: p.start,
@@ -140,7 +140,7 @@ impl<S: Station> Tables<S> {
         requires rising { Pairwise (λ a b. a.start < b.start) (model S.Station.view self.old).processes }
         // The ordinal of the alternative that comes next fits the letter N, which holds one byte: so far the caller shows it.
         requires few { alternative_of (here self.old.programs p) < 255 }
-        ensures { answered (model S.Station.view self.new) (Stepped result) ≡ backward S.Station.meaning (model S.Station.view self.old) (seen self.old.programs p) (with_nothing_left (model S.Station.view self.old) (seen self.old.programs p) p.standing) (returnable p.start self.old.log.items) }
+        ensures { answered (model S.Station.view self.new) (Ok (Stepped result)) ≡ backward S.Station.meaning (model S.Station.view self.old) (seen self.old.programs p) (with_nothing_left (model S.Station.view self.old) (seen self.old.programs p) p.standing) (returnable p.start self.old.log.items) }
     {
         match self.last_record(p.start) {
             Some((k, r)) => {
@@ -167,7 +167,7 @@ impl<S: Station> Tables<S> {
     // The record is taken back at the station, and removed.
     fn undo(&mut self, k: usize, r: Record) -> Turn
         requires within { k < vec_len self.old.log }
-        ensures { answered (model S.Station.view self.new) (Stepped result) ≡ undone S.Station.meaning (model S.Station.view self.old) (record { before = take k self.old.log.items; at = r; after = drop (k + 1) self.old.log.items }) }
+        ensures { answered (model S.Station.view self.new) (Ok (Stepped result)) ≡ undone S.Station.meaning (model S.Station.view self.old) (record { before = take k self.old.log.items; at = r; after = drop (k + 1) self.old.log.items }) }
     {
         self.station.take_back(r.activity, r.answer);
         let _ = self.log.remove(k);
@@ -181,7 +181,7 @@ impl<S: Station> Tables<S> {
         requires rising { Pairwise (λ a b. a.start < b.start) (model S.Station.view self.old).processes }
         // The ordinal of the alternative that comes next fits the letter N, which holds one byte: so far the caller shows it.
         requires few { alternative_of (here self.old.programs p) < 255 }
-        ensures { answered (model S.Station.view self.new) (Stepped result) ≡ with_nothing_left (model S.Station.view self.old) (seen self.old.programs p) p.standing }
+        ensures { answered (model S.Station.view self.new) (Ok (Stepped result)) ≡ with_nothing_left (model S.Station.view self.old) (seen self.old.programs p) p.standing }
     {
         match p.standing {
             Standing::Withdrawing(Aim::Restart) => {
@@ -208,7 +208,7 @@ impl<S: Station> Tables<S> {
         requires at { p ≡ slice_index_or self.old.processes.items i p }
         requires rising { Pairwise (λ a b. a.start < b.start) (model S.Station.view self.old).processes }
         requires few { self.old.committed < 65536 }
-        ensures { answered (model S.Station.view self.new) (Stepped result) ≡ forward S.Station.meaning (model S.Station.view self.old) (seen self.old.programs p) nothing }
+        ensures { answered (model S.Station.view self.new) (Ok (Stepped result)) ≡ forward S.Station.meaning (model S.Station.view self.old) (seen self.old.programs p) nothing }
     {
         let c = Claim::Commit { start: p.start };
         match self.first_blocker(c) {
