@@ -39,8 +39,7 @@ fn put_digits(out: &mut String, byte: u8) -> Result<(), AllocError>
     ensures { OnOk result (string_bytes out.new ≡ string_bytes out.old ++ hex (byte / 16) ∷ hex (byte % 16) ∷ []) }
 {
     put(out, hex(byte / 16))?;
-    put(out, hex(byte % 16))?;
-    Ok(())
+    put(out, hex(byte % 16))
 }
 
 // A byte: a command's letter or mark where a command may stand, and else two digits.

@@ -5,9 +5,9 @@ use std::alloc::Global;
 use std::process::Abort;
 use std::test::Fail;
 
-// What the check must answer: the refusal's number and place.
-pub fn refused(number: u32, place: u32) -> u32 {
-    number.wrapping_mul(65536).wrapping_add(place)
+// What the check must answer: the refusal's number and place, which its interface to C packs into one number.
+pub fn refused(number: u16, place: u16) -> u32 {
+    (u32::from(number) << 16) | u32::from(place)
 }
 
 // The text written so gets this answer.
@@ -25,10 +25,8 @@ pub fn expect_parts(
     answer: u32,
 ) -> Result<(), Fail> {
     let mut line = String::new(heap);
-    for (part, times) in parts {
-        for _ in 0..*times {
-            line.push_str(part)?;
-        }
+    for &(part, times) in parts {
+        line.push_str(part.repeat(heap, times)?.as_str())?;
     }
     expect(rt, heap, line.as_str(), answer)
 }

@@ -21,6 +21,7 @@ fn show_unreadable(
     column: usize,
 ) -> anyhow::Result<()> {
     let shown = column.saturating_add(1);
+    // The error has the column alone: that the line ends there shows only in the line.
     let why = if column < line.len() {
         "this cannot stand here (--help explains the notation)"
     } else {
