@@ -33,7 +33,7 @@ impl Cursor {
 
 // How many brackets are open after a command, of `depth` before it; none after a bar outside of all of them.
 fn depth_after(command: Command, depth: usize) -> Option<usize>
-    requires { depth < 1000 }
+    requires { depth < usize.MAX }
     ensures { Deeper command depth result }
 {
     match command {
@@ -57,14 +57,25 @@ fn step_for(command: Command, choices: Option<usize>) -> Option<Step>
     }
 }
 
-// Whether a row of retriable steps may begin with a command.
-fn row_mark(command: Command) -> bool
-    ensures { result ≡ row_mark command }
+// Whether a row of retriable steps begins here; with no command left, an empty one does.
+fn starts_row(text: &[Command]) -> bool
+    ensures { result ≡ starts_row text.now }
 {
-    match command {
-        Command::R(_) | Command::Close => true,
-        _ => false,
+    matches!(text.first(), None | Some(Command::R(_) | Command::Close))
+}
+
+// What follows the first bar outside of brackets; where there is none, nothing.
+fn past_bar(text: &[Command]) -> &[Command]
+    ensures { result.now ≡ skip 0 text.now }
+{
+    let mut depth = 0;
+    for (place, command) in text.iter().enumerate() {
+        match depth_after(*command, depth) {
+            None => return &text[place + 1..],
+            Some(inside) => depth = inside,
+        }
     }
+    &[]
 }
 
 impl Program {
@@ -119,44 +130,19 @@ impl Program {
         }
     }
 
-    // Whether a row begins at an index; past the end, one does.
-    fn starts_row(&self, at: usize) -> bool
-        ensures { result ≡ starts_row (drop at (program_commands self.now)) }
-    {
-        match self.command(at) {
-            None => true,
-            Some(command) => row_mark(command),
-        }
-    }
-
-    // The index after the first bar from `at` on that is outside of brackets.
-    fn after_bar(&self, at: usize) -> usize
-        ensures there { drop result (program_commands self.now) ≡ skip 0 (drop at (program_commands self.now)) }
-        ensures later { at < self.now.len → (at < result) × (result ≤ self.now.len) }
-    {
-        let mut depth = 0;
-        for place in at..self.len {
-            match depth_after(self.commands[place], depth) {
-                None => return place + 1,
-                Some(inside) => depth = inside,
-            }
-        }
-        self.len
-    }
-
     // Where alternative `k` of the choices from an index on begins, and its ordinal; past the last one the last.
     fn alternative_at(&self, from: usize, k: u32) -> (usize, u32)
         requires { 2 ≤ from }
         ensures { Found self.now from k result.0 result.1 }
     {
-        let mut place = from;
-        for turn in 0..k {
-            if self.starts_row(place) {
-                return (place, turn);
-            }
-            place = self.after_bar(place);
+        let commands = self.commands();
+        let mut rest = &commands[from.min(commands.len())..];
+        let mut alternative = 0;
+        while alternative < k && !starts_row(rest) {
+            rest = past_bar(rest);
+            alternative += 1;
         }
-        (place, k)
+        (commands.len() - rest.len(), alternative)
     }
 
     // The beginning of alternative `k` of the last pivot; past the last alternative, of that. Before any pivot, the same.
