@@ -48,13 +48,9 @@ fn depth_after(command: Command, depth: usize) -> Option<usize>
 fn step_for(command: Command, choices: Option<usize>) -> Option<Step>
     ensures { result ≡ item_for command choices }
 {
-    match command {
-        Command::R(_) => match choices {
-            None => None,
-            Some(_) => command.step(),
-        },
-        _ => command.step(),
-    }
+    command
+        .step()
+        .filter(|step| step.kind != Kind::Retriable || choices.is_some())
 }
 
 // Whether a row of retriable steps begins here; with no command left, an empty one does.
@@ -99,10 +95,8 @@ impl Program {
     pub fn next(&self, cursor: Cursor) -> Option<Step>
         ensures { result ≡ coming (what_comes (position self.now cursor)) }
     {
-        match self.command(cursor.at) {
-            None => None,
-            Some(command) => step_for(command, cursor.choices),
-        }
+        let command = self.command(cursor.at)?;
+        step_for(command, cursor.choices)
     }
 
     // The cursor after the step that is next, a pivot's leading into alternative 0; with nothing next, the same.
@@ -110,22 +104,25 @@ impl Program {
         ensures place { position self.now result ≡ led_on (position self.now cursor) }
         ensures left { left_at self.now result ≡ left_after (coming (what_comes (position self.now cursor))) (left_at self.now cursor) }
     {
-        if cursor.at >= self.len {
+        let Some(step) = self.next(cursor) else {
             return cursor;
-        }
-        match self.next(cursor) {
-            None => cursor,
-            Some(step) => match step.kind {
-                Kind::Pivot => Cursor {
-                    at: cursor.at + 2,
-                    choices: Some(cursor.at + 2),
-                    alternative: 0,
-                },
-                _ => Cursor {
-                    at: cursor.at + 1,
-                    choices: cursor.choices,
-                    alternative: cursor.alternative,
-                },
+        };
+        // Field by field: `..cursor` is refused where a struct has a ghost field.
+        let Cursor {
+            at,
+            choices,
+            alternative,
+        } = cursor;
+        match step.kind {
+            Kind::Pivot => Cursor {
+                at: at + 2,
+                choices: Some(at + 2),
+                alternative: 0,
+            },
+            _ => Cursor {
+                at: at + 1,
+                choices,
+                alternative,
             },
         }
     }
@@ -150,16 +147,14 @@ impl Program {
         ensures place { position self.now result ≡ gone_into k (position self.now cursor) }
         ensures left { left_at self.now result ≡ left_into k (left_at self.now cursor) }
     {
-        match cursor.choices {
-            None => cursor,
-            Some(from) => {
-                let (at, alternative) = self.alternative_at(from, k);
-                Cursor {
-                    at,
-                    choices: Some(from),
-                    alternative,
-                }
-            }
+        let Some(from) = cursor.choices else {
+            return cursor;
+        };
+        let (at, alternative) = self.alternative_at(from, k);
+        Cursor {
+            at,
+            choices: cursor.choices,
+            alternative,
         }
     }
 

@@ -20,20 +20,14 @@ impl Reading {
     pub fn number(&self) -> u32
         ensures { result ≡ number_told self.now.refusal }
     {
-        match self.refusal {
-            None => 0,
-            Some(refusal) => refusal.fault.number(),
-        }
+        self.refusal.map_or(0, |refusal| refusal.fault.number())
     }
 
     // The refusal's place, 0 where there is none.
     pub fn place(&self) -> usize
         ensures { result ≡ place_told self.now.refusal }
     {
-        match self.refusal {
-            None => 0,
-            Some(refusal) => refusal.place,
-        }
+        self.refusal.map_or(0, |refusal| refusal.place)
     }
 }
 
