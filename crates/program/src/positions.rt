@@ -65,8 +65,8 @@ fn past_bar(text: &[Command]) -> &[Command]
     ensures { result.now ≡ skip 0 text.now }
 {
     let mut depth = 0;
-    for (place, command) in text.iter().enumerate() {
-        match depth_after(*command, depth) {
+    for (place, &command) in text.iter().enumerate() {
+        match depth_after(command, depth) {
             None => return &text[place + 1..],
             Some(inside) => depth = inside,
         }

@@ -9,7 +9,8 @@ use crate::reader::{blank, parse};
 use crate::{Program, Refusal};
 
 // The program of the text; where the text is refused, the program of `.`, with the refusal.
-#[derive(Clone, Copy)]
+// The rules fix this form, a program for every text, with the number and the place 0 where it is read; `parse` is the Result beside it.
+#[derive(Clone, Copy, Debug, PartialEq, Eq)]
 pub struct Reading {
     pub program: Program,
     pub refusal: Option<Refusal>,
