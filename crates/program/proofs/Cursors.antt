@@ -1,5 +1,5 @@
 -- A cursor in a program, as a position in its tree.
-use Rattle.std.proofs.Common.{◌≡◌, ℕ, zero, suc, ◌+◌, ◌<◌, ◌≤◌, Bool, true, false, List, [], ◌∷◌, ◌++◌, length, get_or, take, drop, Some, None, Option, sym, refl, ap, ◌∙◌, arith, length-append, take-append-drop, length-take-le}
+use Rattle.std.proofs.Common.{◌≡◌, ℕ, suc, ◌+◌, ◌≤◌, Bool, true, false, List, [], ◌∷◌, ◌++◌, length, take, drop, Some, None, Option, sym, refl, ap, ◌∙◌, arith, length-append, take-append-drop, length-take-le}
 use mathlib.Core.Bool.{Bool-set}
 use mathlib.Core.Logic.{∥∥₁_elim}
 use Rattle.std.specs.List.{cons_option}
@@ -12,13 +12,12 @@ use Rattle.program.specs.declared.program.Program.{Program}
 use Rattle.program.specs.declared.command.Step.{Step}
 use Rattle.program.specs.declared.command.Kind.{Kind}
 use Rattle.program.specs.declared.command.Kind.TheVariants.{Compensatable, Pivot, Retriable}
-use Rattle.program.specs.Grammar.{Choices, row, or_else, text_commands, body_steps}
-use Rattle.program.specs.Positions.{in_body, in_row, Position, outer, inner, alternative, reached, entered, Next, nothing, comes, next, coming, led, onward}
-use Rattle.program.specs.Places.{program_commands, row_at, body_at, opened_at, choices_at, rest_at, placed, tree, starts_row, skip, step_of, steps_among, nth, first, Spells, item_for, Left, left_in, left_past, left_after, unless_row, skipped}
+use Rattle.program.specs.Grammar.{Choices, text_commands, body_steps}
+use Rattle.program.specs.Positions.{in_body, in_row, Position, outer, inner, entered, Next, nothing, comes, next, coming, led, onward}
+use Rattle.program.specs.Places.{program_commands, row_at, body_at, opened_at, choices_at, rest_at, placed, tree, step_of, steps_among, nth, first, Spells, item_for, Left, left_in, left_past, left_after}
 use Rattle.program.specs.Contexts.{Context, in_body_at, at_pivot, at_choice, in_row_at, closed, over, nowhere, goes, is_over}
 use Rattle.program.proofs.Trees.{goes_append, goes_nowhere, goes_whole, whole_goes}
-use Rattle.program.proofs.ReadBack.{text_back, text_steps, choices_row, choices_body}
-use Rattle.program.proofs.Walks.{from_there}
+use Rattle.program.proofs.ReadBack.{text_back, text_steps}
 
 over_is : (st : Context) → is_over st ≡ true → st ≡ over
 over_is (in_body_at n) e = absurd (let z : ◌≡◌ {A = ℕ} 0 1 = cc in omega arith)
@@ -181,43 +180,10 @@ pub crossing_on : (cs : List Command) (at : ℕ) (choices : Option ℕ) (k : ℕ
 crossing_on cs at None k s e n = ap (λ zs. entered (choices_at zs)) (sym (drop-drop 2 at cs)) ∙ crossing_outer (drop at cs) s e n
 crossing_on cs at (Some from) k s e n = ap (λ zs. entered (choices_at zs)) (sym (drop-drop 2 at cs)) ∙ crossing_inner (drop at cs) s (choices_at (drop from cs)) k e n
 
--- alternatives
-pub row_stays : (xs : List Command) (k : ℕ) → starts_row xs ≡ true → rest_at xs ≡ alternative (choices_at xs) k
-row_stays xs k e = ap (λ c. alternative c 0) (choices_row xs e) ∙ sym (ap (λ c. alternative c k) (choices_row xs e))
-
-pub body_turns : (xs : List Command) (k : ℕ) → starts_row xs ≡ false → alternative (choices_at (skip 0 xs)) k ≡ alternative (choices_at xs) (suc k)
-body_turns xs k e = sym (ap (λ c. alternative c (suc k)) (choices_body xs e))
-
--- the commands from an index on, in a program
-pub command_there : (p : Program) (at : ℕ) (d : Command) → at < p.len → drop at (program_commands p) ≡ get_or p.commands at d ∷ drop (at + 1) (program_commands p)
-command_there p at d h = from_there p.commands p.len at d h (omega (arith, p.room, p.long))
-
 pub none_there : (p : Program) (at : ℕ) → p.len ≤ at → drop at (program_commands p) ≡ []
 none_there p at h =
     let long : length (program_commands p) ≡ p.len = length-take-le p.len p.commands (omega (arith, p.room, p.long)) in
     drop_all at (program_commands p) (omega arith)
-
--- the ordinal of an alternative
-pub row_reached : (xs : List Command) (k : ℕ) → starts_row xs ≡ true → reached (choices_at xs) k ≡ 0
-row_reached xs k e = ap (λ c. reached c k) (choices_row xs e)
-
-pub body_reached : (xs : List Command) (k : ℕ) → starts_row xs ≡ false → suc (reached (choices_at (skip 0 xs)) k) ≡ reached (choices_at xs) (suc k)
-body_reached xs k e = sym (ap (λ c. reached c (suc k)) (choices_body xs e))
-
-pub none_reached : (c : Choices) → reached c 0 ≡ 0
-none_reached (row ss) = refl
-none_reached (or_else b c) = refl
-
-some_left : (xs : List Command) (n : ℕ) → starts_row (drop n xs) ≡ false → n < length xs
-some_left [] zero e = absurd (let z : ◌≡◌ {A = ℕ} 0 1 = cc in omega arith)
-some_left [] (suc n) e = absurd (let z : ◌≡◌ {A = ℕ} 0 1 = cc in omega arith)
-some_left (x ∷ xs) zero e = omega arith
-some_left (x ∷ xs) (suc n) e = let h = some_left xs n e in omega arith
-
-pub before_end : (p : Program) (at : ℕ) → starts_row (drop at (program_commands p)) ≡ false → at < p.len
-before_end p at e =
-    let long : length (program_commands p) ≡ p.len = length-take-le p.len p.commands (omega (arith, p.room, p.long)) in
-    omega (arith, some_left (program_commands p) at e)
 
 pub none_first : (cs : List Command) → None ≡ first cs → cs ≡ []
 none_first [] e = refl
@@ -281,11 +247,3 @@ module _ (cs : List Command) (at : ℕ) (choices : Option ℕ) (s : Step) (o : O
       let l = left_in cs at choices in
       let two : left_in cs (at + 2) (Some (at + 2)) ≡ left_past Pivot l = (λ i. record { here = sym (drop-drop 2 at cs) i; choices = Some (sym (drop-drop 2 at cs) i) }) in
       two ∙ ap (λ k. left_past k l) (sym n) ∙ ap (λ x. left_after x l) e
-
--- the text from an alternative on
-pub row_skipped : (xs : List Command) (k : ℕ) → starts_row xs ≡ true → xs ≡ skipped k xs
-row_skipped xs zero e = refl
-row_skipped xs (suc k) e = sym (ap (λ b. unless_row b xs (skipped k (skip 0 xs))) e)
-
-pub body_skipped : (xs : List Command) (k : ℕ) → starts_row xs ≡ false → skipped k (skip 0 xs) ≡ skipped (suc k) xs
-body_skipped xs k e = sym (ap (λ b. unless_row b xs (skipped k (skip 0 xs))) e)

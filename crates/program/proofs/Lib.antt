@@ -5,6 +5,7 @@ mod Limits
 mod Counts
 mod Places
 mod Parts
+mod Alternatives
 mod Cursors
 mod Unique
 mod WorkedTexts

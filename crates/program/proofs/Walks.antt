@@ -1,6 +1,5 @@
 -- Skipping what is left of an alternative.
-use Rattle.std.proofs.Common.{◌≡◌, ℕ, suc, ◌+◌, ◌<◌, ◌≤◌, List, [], ◌∷◌, ◌++◌, length, get_or, take, drop, refl, ap, ◌∙◌, append_assoc, arith, length-take-le, get_or-take}
-use Rattle.std.proofs.lemmas.List.{drop_more}
+use Rattle.std.proofs.Common.{◌≡◌, ℕ, suc, List, [], ◌∷◌, ◌++◌, refl, ap, ◌∙◌, append_assoc, arith}
 use Rattle.activity.specs.declared.Activity.{Activity}
 use Rattle.program.specs.declared.command.Command.{Command}
 use Rattle.program.specs.declared.command.Command.TheVariants.{Bar, Close}
@@ -22,9 +21,3 @@ mutual
   skip_choices (row ss) n xs = skip_row ss (suc n) xs
   skip_choices (or_else b c) n xs =
       ap (skip (suc n)) (append_assoc (body_commands b) (Bar ∷ choices_commands c) xs) ∙ skip_body b (suc n) (Bar ∷ (choices_commands c ++ xs)) ∙ skip_choices c n xs
-
--- the commands from a place on, by the table of commands
-pub from_there : (cs : List Command) (n at : ℕ) (d : Command) → at < n → n ≤ length cs → drop at (take n cs) ≡ get_or cs at d ∷ drop (at + 1) (take n cs)
-from_there cs n at d h k =
-    let long : length (take n cs) ≡ n = length-take-le n cs k in
-    drop_more (take n cs) at d (omega arith) ∙ ap (λ c. c ∷ drop (at + 1) (take n cs)) (get_or-take n cs at d h)

@@ -102,9 +102,6 @@ impl Command {
     pub(crate) fn is_step(self) -> bool
         ensures { (if result then 1 else 0) ≡ weight self }
     {
-        match self {
-            Command::C(_) | Command::P(_) | Command::R(_) => true,
-            _ => false,
-        }
+        matches!(self, Command::C(_) | Command::P(_) | Command::R(_))
     }
 }

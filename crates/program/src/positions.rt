@@ -33,7 +33,7 @@ impl Cursor {
 
 // How many brackets are open after a command, of `depth` before it; none after a bar outside of all of them.
 fn depth_after(command: Command, depth: usize) -> Option<usize>
-    requires { depth < 1000 }
+    requires { depth < usize.MAX }
     ensures { Deeper command depth result }
 {
     match command {
@@ -48,23 +48,30 @@ fn depth_after(command: Command, depth: usize) -> Option<usize>
 fn step_for(command: Command, choices: Option<usize>) -> Option<Step>
     ensures { result ≡ item_for command choices }
 {
-    match command {
-        Command::R(_) => match choices {
-            None => None,
-            Some(_) => command.step(),
-        },
-        _ => command.step(),
-    }
+    command
+        .step()
+        .filter(|step| step.kind != Kind::Retriable || choices.is_some())
 }
 
-// Whether a row of retriable steps may begin with a command.
-fn row_mark(command: Command) -> bool
-    ensures { result ≡ row_mark command }
+// Whether a row of retriable steps begins here; with no command left, an empty one does.
+fn starts_row(text: &[Command]) -> bool
+    ensures { result ≡ starts_row text.now }
 {
-    match command {
-        Command::R(_) | Command::Close => true,
-        _ => false,
+    matches!(text.first(), None | Some(Command::R(_) | Command::Close))
+}
+
+// What follows the first bar outside of brackets; where there is none, nothing.
+fn past_bar(text: &[Command]) -> &[Command]
+    ensures { result.now ≡ skip 0 text.now }
+{
+    let mut depth = 0;
+    for (place, &command) in text.iter().enumerate() {
+        match depth_after(command, depth) {
+            None => return &text[place + 1..],
+            Some(inside) => depth = inside,
+        }
     }
+    &[]
 }
 
 impl Program {
@@ -88,10 +95,8 @@ impl Program {
     pub fn next(&self, cursor: Cursor) -> Option<Step>
         ensures { result ≡ coming (what_comes (position self.now cursor)) }
     {
-        match self.command(cursor.at) {
-            None => None,
-            Some(command) => step_for(command, cursor.choices),
-        }
+        let command = self.command(cursor.at)?;
+        step_for(command, cursor.choices)
     }
 
     // The cursor after the step that is next, a pivot's leading into alternative 0; with nothing next, the same.
@@ -99,49 +104,27 @@ impl Program {
         ensures place { position self.now result ≡ led_on (position self.now cursor) }
         ensures left { left_at self.now result ≡ left_after (coming (what_comes (position self.now cursor))) (left_at self.now cursor) }
     {
-        if cursor.at >= self.len {
+        let Some(step) = self.next(cursor) else {
             return cursor;
-        }
-        match self.next(cursor) {
-            None => cursor,
-            Some(step) => match step.kind {
-                Kind::Pivot => Cursor {
-                    at: cursor.at + 2,
-                    choices: Some(cursor.at + 2),
-                    alternative: 0,
-                },
-                _ => Cursor {
-                    at: cursor.at + 1,
-                    choices: cursor.choices,
-                    alternative: cursor.alternative,
-                },
+        };
+        // Field by field: `..cursor` is refused where a struct has a ghost field.
+        let Cursor {
+            at,
+            choices,
+            alternative,
+        } = cursor;
+        match step.kind {
+            Kind::Pivot => Cursor {
+                at: at + 2,
+                choices: Some(at + 2),
+                alternative: 0,
+            },
+            _ => Cursor {
+                at: at + 1,
+                choices,
+                alternative,
             },
         }
-    }
-
-    // Whether a row begins at an index; past the end, one does.
-    fn starts_row(&self, at: usize) -> bool
-        ensures { result ≡ starts_row (drop at (program_commands self.now)) }
-    {
-        match self.command(at) {
-            None => true,
-            Some(command) => row_mark(command),
-        }
-    }
-
-    // The index after the first bar from `at` on that is outside of brackets.
-    fn after_bar(&self, at: usize) -> usize
-        ensures there { drop result (program_commands self.now) ≡ skip 0 (drop at (program_commands self.now)) }
-        ensures later { at < self.now.len → (at < result) × (result ≤ self.now.len) }
-    {
-        let mut depth = 0;
-        for place in at..self.len {
-            match depth_after(self.commands[place], depth) {
-                None => return place + 1,
-                Some(inside) => depth = inside,
-            }
-        }
-        self.len
     }
 
     // Where alternative `k` of the choices from an index on begins, and its ordinal; past the last one the last.
@@ -149,14 +132,14 @@ impl Program {
         requires { 2 ≤ from }
         ensures { Found self.now from k result.0 result.1 }
     {
-        let mut place = from;
-        for turn in 0..k {
-            if self.starts_row(place) {
-                return (place, turn);
-            }
-            place = self.after_bar(place);
+        let commands = self.commands();
+        let mut rest = &commands[from.min(commands.len())..];
+        let mut alternative = 0;
+        while alternative < k && !starts_row(rest) {
+            rest = past_bar(rest);
+            alternative += 1;
         }
-        (place, k)
+        (commands.len() - rest.len(), alternative)
     }
 
     // The beginning of alternative `k` of the last pivot; past the last alternative, of that. Before any pivot, the same.
@@ -164,16 +147,14 @@ impl Program {
         ensures place { position self.now result ≡ gone_into k (position self.now cursor) }
         ensures left { left_at self.now result ≡ left_into k (left_at self.now cursor) }
     {
-        match cursor.choices {
-            None => cursor,
-            Some(from) => {
-                let (at, alternative) = self.alternative_at(from, k);
-                Cursor {
-                    at,
-                    choices: Some(from),
-                    alternative,
-                }
-            }
+        let Some(from) = cursor.choices else {
+            return cursor;
+        };
+        let (at, alternative) = self.alternative_at(from, k);
+        Cursor {
+            at,
+            choices: cursor.choices,
+            alternative,
         }
     }
 

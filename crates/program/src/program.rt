@@ -6,7 +6,8 @@ use crate::Command;
 
 // A program: the commands of one text, from its first to the full stop.
 // Its last field says that the grammar yields that text within the limits, so no other row of commands makes a program.
-#[derive(Clone, Copy)]
+// A table with its length, since nothing here allocates: C controllers read programs without an allocator.
+#[derive(Clone, Copy, Debug, PartialEq, Eq)]
 pub struct Program {
     pub(crate) commands: [Command; 255],
     pub(crate) len: usize,

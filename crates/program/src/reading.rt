@@ -9,7 +9,8 @@ use crate::reader::{blank, parse};
 use crate::{Program, Refusal};
 
 // The program of the text; where the text is refused, the program of `.`, with the refusal.
-#[derive(Clone, Copy)]
+// The rules fix this form, a program for every text, with the number and the place 0 where it is read; `parse` is the Result beside it.
+#[derive(Clone, Copy, Debug, PartialEq, Eq)]
 pub struct Reading {
     pub program: Program,
     pub refusal: Option<Refusal>,
@@ -20,20 +21,14 @@ impl Reading {
     pub fn number(&self) -> u32
         ensures { result ≡ number_told self.now.refusal }
     {
-        match self.refusal {
-            None => 0,
-            Some(refusal) => refusal.fault.number(),
-        }
+        self.refusal.map_or(0, |refusal| refusal.fault.number())
     }
 
     // The refusal's place, 0 where there is none.
     pub fn place(&self) -> usize
         ensures { result ≡ place_told self.now.refusal }
     {
-        match self.refusal {
-            None => 0,
-            Some(refusal) => refusal.place,
-        }
+        self.refusal.map_or(0, |refusal| refusal.place)
     }
 }
 

@@ -2,21 +2,21 @@
 ghost use Rattle.std.specs.Prelude.{◌≡◌};
 ghost use Rattle.program.specs.Refusals.{number_of};
 
-// What is wrong with a text.
+// What is wrong with a text, by the number that callers know it by.
 #[derive(Clone, Copy, Debug, PartialEq, Eq)]
 pub enum Fault {
     // over 255 bytes
-    TooLong,
+    TooLong = 1,
     // a byte that is no command, or a command that cannot stand there
-    Misplaced,
+    Misplaced = 2,
     // no byte is left, or a step's operands are cut off
-    CutOff,
+    CutOff = 3,
     // the 33rd step
-    TooManySteps,
+    TooManySteps = 4,
     // a fifth open bracket
-    TooDeep,
+    TooDeep = 5,
     // bytes after the full stop
-    Trailing,
+    Trailing = 6,
 }
 
 impl Fault {
@@ -24,14 +24,7 @@ impl Fault {
     pub fn number(self) -> u32
         ensures { result ≡ number_of self }
     {
-        match self {
-            Fault::TooLong => 1,
-            Fault::Misplaced => 2,
-            Fault::CutOff => 3,
-            Fault::TooManySteps => 4,
-            Fault::TooDeep => 5,
-            Fault::Trailing => 6,
-        }
+        self as u32
     }
 }
 

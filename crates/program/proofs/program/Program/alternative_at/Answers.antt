@@ -1,58 +1,44 @@
-use Rattle.std.proofs.Common.{◌≡◌, suc, ◌+◌, ◌-◌, drop, sym, ap, ◌∙◌, arith}
-use Rattle.program.specs.Positions.{alternative, reached}
-use Rattle.program.specs.Places.{program_commands, choices_at, skipped}
-use Rattle.program.proofs.Cursors.{body_turns, row_stays, row_reached, body_reached, none_reached, before_end, row_skipped, body_skipped}
+use Rattle.std.proofs.Common.{◌≡◌, ◌⊎◌, ◌+◌, ◌-◌, suc, true, drop, length, sym, ap, subst, ◌∙◌, arith, inl, inr}
+use Rattle.std.proofs.lemmas.List.{drop-drop}
+use Rattle.program.specs.Places.{program_commands, rest_at, skipped, starts_row, choices_at}
+use Rattle.program.specs.Positions.{reached}
+use Rattle.program.proofs.Alternatives.{by_length, skip_there, stays_there, Passes, passes, rest_skipped}
 use Rattle.program.proofs.program.Program.alternative_at.Goals as goal
+use Rattle.program.proofs.program.Program.alternative_at.Goals.{then-loop-alternative-test+else-not-starts_row, else-loop-alternative-test}
 
-pub loop-turn-init : goal.loop-turn-init
-loop-turn-init c =
-    let text = drop c.args.from (program_commands c.args.self.now) in
-    let first = choices_at text in
-    let all : c.args.k - 0 ≡ c.args.k = omega arith in
+pub loop-alternative-preserved : goal.loop-alternative-preserved
+loop-alternative-preserved c =
+    let xs = c.loop-alternative.rest.now in
+    let j = c.args.k - (c.loop-alternative.alternative + 1) in
+    let one : suc j ≡ c.args.k - c.loop-alternative.alternative = omega arith in
+    let past = subst (λ ys. Passes xs ys j) (sym c.past_bar-rest.ensures) (passes xs j (sym c.starts_row.ensures ∙ c.if-not-starts_row.true)) in
+    let here = c.loop-alternative.invariant.there in
+    let on = skip_there 0 xs in
     record {
-      there = ap (alternative first) all;
-      count = omega (arith, ap (reached first) all);
-      text = ap (λ j. skipped j text) all;
-      passed = omega arith;
-      low = omega arith;
+      there = (here.0 + on.0, sym (drop-drop on.0 here.0 c.commands-commands.result.now) ∙ ap (drop on.0) here.1 ∙ on.1 ∙ sym c.past_bar-rest.ensures);
+      text = past.text ∙ ap (λ n. skipped n xs) one ∙ c.loop-alternative.invariant.text;
+      count = omega (arith, past.count, ap (reached (choices_at xs)) one);
+      passed = omega (arith, past.shorter);
     }
 
-pub returns-then-starts_row : goal.returns-then-starts_row
-returns-then-starts_row c =
-    let xs = drop c.loop-turn.place (program_commands c.args.self.now) in
-    let j = c.args.k - c.loop-turn.turn in
-    let starts = sym c.if-starts_row.ensures in
-    record {
-      there = row_stays xs j starts ∙ c.loop-turn.invariant.there;
-      count = omega (arith, row_reached xs j starts, c.loop-turn.invariant.count);
-      low = c.loop-turn.invariant.low;
-      text = row_skipped xs j starts ∙ c.loop-turn.invariant.text;
-    }
-
-pub loop-turn-preserved : goal.loop-turn-preserved
-loop-turn-preserved c =
-    let p = c.args.self.now in
-    let xs = drop c.loop-turn.place (program_commands p) in
-    let j = c.args.k - (c.loop-turn.turn + 1) in
-    let goes = sym c.if-starts_row.ensures in
-    let one : suc j ≡ c.args.k - c.loop-turn.turn = omega arith in
-    let later = c.after_bar-place.ensures.later (before_end p c.loop-turn.place goes) in
-    record {
-      there = ap (λ ys. alternative (choices_at ys) j) c.after_bar-place.ensures.there ∙ body_turns xs j goes ∙ ap (alternative (choices_at xs)) one ∙ c.loop-turn.invariant.there;
-      count = omega (arith, ap (λ ys. reached (choices_at ys) j) c.after_bar-place.ensures.there, body_reached xs j goes, ap (reached (choices_at xs)) one);
-      text = ap (skipped j) c.after_bar-place.ensures.there ∙ body_skipped xs j goes ∙ ap (λ n. skipped n xs) one ∙ c.loop-turn.invariant.text;
-      passed = omega (arith, later.0);
-      low = omega (arith, later.0, later.1, p.room);
-    }
+pub overflow_sub-result : goal.overflow_sub-result
+overflow_sub-result c = (by_length c.commands-commands.result.now c.loop-alternative.rest.now c.loop-alternative.invariant.there.0 c.loop-alternative.invariant.there.1).0
 
 pub returns : goal.returns
 returns c =
-    let text = drop c.loop-turn.place (program_commands c.args.self.now) in
-    let here = choices_at text in
-    let none : c.args.k - c.loop-turn.turn ≡ 0 = omega arith in
+    let xs = c.loop-alternative.rest.now in
+    let left = c.args.k - c.loop-alternative.alternative in
+    let stop : (starts_row xs ≡ true) ⊎ (left ≡ 0) = elim c.loop-alternative-test.branch [
+      | then-loop-alternative-test+else-not-starts_row w ↦ inl (sym w.starts_row.ensures ∙ w.if-not-starts_row.false)
+      | else-loop-alternative-test w ↦ inr (omega arith)
+    ] in
+    let stays = stays_there xs left stop in
+    let at = length c.commands-commands.result.now - length xs in
+    let text : drop at (program_commands c.args.self.now) ≡ skipped c.args.k (drop c.args.from (program_commands c.args.self.now)) =
+    ap (drop at) (sym c.commands-commands.ensures.table) ∙ (by_length c.commands-commands.result.now xs c.loop-alternative.invariant.there.0 c.loop-alternative.invariant.there.1).1 ∙ sym stays.0 ∙ c.loop-alternative.invariant.text in
     record {
-      there = sym (ap (alternative here) none) ∙ c.loop-turn.invariant.there;
-      count = omega (arith, ap (reached here) none, none_reached here, c.loop-turn.invariant.count);
+      there = ap rest_at text ∙ rest_skipped c.args.k (drop c.args.from (program_commands c.args.self.now));
+      count = omega (arith, stays.1);
       low = omega arith;
-      text = sym (ap (λ j. skipped j text) none) ∙ c.loop-turn.invariant.text;
+      text = text;
     }

@@ -1,18 +1,19 @@
-use Rattle.std.proofs.Common.{◌≡◌, ◌+◌, ◌-◌, ◌<◌, ◌≤◌, drop}
-use Rattle.program.specs.Positions.{alternative, reached}
+use Rattle.std.proofs.Common.{◌≡◌, ℕ, ◌+◌, ◌-◌, ◌≤◌, length, drop}
+use Rattle.program.specs.Positions.{reached}
 use Rattle.program.specs.Places.{program_commands, choices_at, skipped}
 use Rattle.program.proofs.program.Program.alternative_at.Given as goal
 
--- the alternatives still to be passed are those from here on, and those passed took a command each, after the pivot and its bracket
-abbrev pub invariant-loop-turn : goal.invariant-loop-turn
-invariant-loop-turn l =
-    let text = drop l.from (program_commands l.self) in
-    let here = drop l.place (program_commands l.self) in
-    let left = l.k - l.turn in
+-- what is still to be passed; each alternative passed took a command, and the pivot stands before them
+abbrev pub invariant-loop-alternative : goal.invariant-loop-alternative
+invariant-loop-alternative l =
+    let first = drop l.from (program_commands l.self) in
+    let left = l.k - l.alternative in
     record {
-      there : alternative (choices_at here) left ≡ alternative (choices_at text) l.k;
-      count : l.turn + reached (choices_at here) left ≡ reached (choices_at text) l.k;
-      text : skipped left here ≡ skipped l.k text;
-      passed : l.turn < l.place;
-      low : l.turn ≤ 254;
+      there : (i : ℕ) × (drop i l.commands ≡ l.rest);
+      text : skipped left l.rest ≡ skipped l.k first;
+      count : l.alternative + reached (choices_at l.rest) left ≡ reached (choices_at first) l.k;
+      passed : l.alternative + length l.rest ≤ 254;
     }
+
+abbrev pub decreases-loop-alternative : goal.decreases-loop-alternative
+decreases-loop-alternative l = l.k - l.alternative

@@ -3,9 +3,9 @@ use Rattle.program.specs.Places.{program_commands}
 use Rattle.program.proofs.Cursors.{at_end, none_first, some_first, comes_here}
 use Rattle.program.proofs.program.Program.next.Goals as goal
 
-pub returns-in-None : goal.returns-in-None
-returns-in-None c = at_end (program_commands c.args.self.now) c.args.cursor.at c.args.cursor.choices c.args.cursor.alternative (none_first _ c.in-None.ensures.first)
+pub returns-in_err-command : goal.returns-in_err-command
+returns-in_err-command c = c.from_residual.ensures ∙ at_end (program_commands c.args.self.now) c.args.cursor.at c.args.cursor.choices c.args.cursor.alternative (none_first _ c.in_err-command.ensures.first)
 
-pub returns-in-Some : goal.returns-in-Some
-returns-in-Some c =
-    c.step_for.ensures ∙ comes_here c.in-Some.command _ c.args.cursor.choices (program_commands c.args.self.now) c.args.cursor.at c.args.cursor.alternative (some_first _ c.in-Some.command c.in-Some.ensures.first)
+pub returns : goal.returns
+returns c =
+    c.step_for.ensures ∙ comes_here c.in_ok-command.command _ c.args.cursor.choices (program_commands c.args.self.now) c.args.cursor.at c.args.cursor.alternative (some_first _ c.in_ok-command.command c.in_ok-command.ensures.first)
