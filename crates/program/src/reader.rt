@@ -59,6 +59,7 @@ struct Reader<'a> {
     // A table with its length: nothing here allocates, so the memory for the commands is fixed.
     commands: [Command; MAX_BYTES],
     len: usize,
+    // Between two commands: the bytes up to the place are those of the commands read, which keep the limits.
     ghost split: { take at text.now ≡ bytes (take len commands) },
     ghost inside: { at ≤ length text.now },
     ghost short: { length text.now ≤ 255 },
