@@ -130,16 +130,16 @@ pub moved_more : (r r' r'' : Reader) → Moved r r' → Moved r' r'' → Moved r
 moved_more r r' r'' m n = record { same = n.same ∙ m.same; forward = omega (arith, m.forward, n.forward) }
 
 -- a step of a row that may begin or go on can stand at the place where its letter does
-pub row_steps : (k : Kind) (r : Reader) (n : ℕ) → StepsNext k r n → r.at < length (text_of r) → byte_at r ≡ letter_of k → KindNext r k
-row_steps Compensatable r n next here is s = record { here = here; letter = sym is; step = refl; leads = λ e. let f : in_body_at n ≡ nowhere = sym (next.on_c s) ∙ e in cc }
-row_steps Pivot r n next here is s = absurd next
-row_steps Retriable r n next here is s = record { here = here; letter = sym is; step = refl; leads = λ e. let f : in_row_at n ≡ nowhere = sym (next.on_r s) ∙ e in cc }
+pub steps_next : (k : Kind) (r : Reader) (n : ℕ) → StepsNext k r n → r.at < length (text_of r) → byte_at r ≡ letter_of k → KindNext r k
+steps_next Compensatable r n next here is s = record { here = here; letter = sym is; step = refl; leads = λ e. let f : in_body_at n ≡ nowhere = sym (next.on_c s) ∙ e in cc }
+steps_next Pivot r n next here is s = absurd next
+steps_next Retriable r n next here is s = record { here = here; letter = sym is; step = refl; leads = λ e. let f : in_row_at n ≡ nowhere = sym (next.on_r s) ∙ e in cc }
 
 -- and the row goes on after it
-pub row_on : (k : Kind) (r r' : Reader) (n : ℕ) → StepsNext k r n → Stepped r r' k → StepsNext k r' n
-row_on Compensatable r r' n next (s, p) = body_goes_on r' n (p.stands ∙ next.on_c s)
-row_on Pivot r r' n next p = next
-row_on Retriable r r' n next (s, p) = row_goes_on r' n (p.stands ∙ next.on_r s)
+pub steps_on : (k : Kind) (r r' : Reader) (n : ℕ) → StepsNext k r n → Stepped r r' k → StepsNext k r' n
+steps_on Compensatable r r' n next (s, p) = body_goes_on r' n (p.stands ∙ next.on_c s)
+steps_on Pivot r r' n next p = next
+steps_on Retriable r r' n next (s, p) = row_goes_on r' n (p.stands ∙ next.on_r s)
 
 -- what stands where only the mark m can stand, and does not
 module _ (r : Reader) (m : Command) (next : MarkNext r m) where
