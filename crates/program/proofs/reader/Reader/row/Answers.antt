@@ -1,6 +1,6 @@
 use Rattle.std.proofs.Common.{rules}
 use Rattle.program.proofs.Parts.{steps_next, steps_on, moved_more}
-use Rattle.program.proofs.reader.Reader.steps.Goals as goal
+use Rattle.program.proofs.reader.Reader.row.Goals as goal
 
 pub step-requires : goal.step-requires
 step-requires c = steps_next c.args.kind c.loop-self.self c.args.depth c.loop-self.invariant.1 (search rules) (search rules)
