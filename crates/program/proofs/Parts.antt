@@ -1,6 +1,5 @@
 -- What can stand where, and what one part of the reader hands to the next.
-use Rattle.std.proofs.Common.{◌≡◌, ℕ, zero, suc, ◌+◌, ◌<◌, ◌≤◌, ◌⊎◌, [], ◌∷◌, ◌++◌, length, take, drop, sym, refl, ap, ◌∙◌, subst, ⊎_elim, add-one, arith}
-use Rattle.std.proofs.lemmas.List.{drop_more}
+use Rattle.std.proofs.Common.{◌≡◌, ℕ, zero, suc, ◌+◌, ◌<◌, ◌≤◌, [], ◌∷◌, ◌++◌, length, sym, refl, ap, ◌∙◌, subst, add-one, arith}
 use Rattle.activity.specs.declared.Activity.{Activity}
 use Rattle.program.specs.declared.command.Kind.{Kind}
 use Rattle.program.specs.declared.command.Kind.TheVariants.{Compensatable, Pivot, Retriable}
@@ -8,10 +7,10 @@ use Rattle.program.specs.declared.command.Command.{Command}
 use Rattle.program.specs.declared.command.Command.TheVariants.{C, P, R, Open, Bar, Close, Stop}
 use Rattle.program.specs.declared.refusal.Fault.TheVariants.{Misplaced, CutOff, TooDeep}
 use Rattle.program.specs.declared.reader.Reader.{Reader}
-use Rattle.program.specs.Grammar.{mark, written, letter_of, command_of, operands}
+use Rattle.program.specs.Grammar.{mark, letter_of, command_of}
 use Rattle.program.specs.Refusals.{weight, Within, opened, open_after, Refused}
 use Rattle.program.specs.Contexts.{Context, in_body_at, at_pivot, at_choice, in_row_at, nowhere, over, end_mark, go, goes}
-use Rattle.program.specs.Reads.{text_of, commands_of, context, byte_at, Spelled, Pushed, StepNext, Only, KindNext, Stepped, StepsNext, MarkNext, Passed, Ready, BodyNext, RowNext, Moved}
+use Rattle.program.specs.Reads.{text_of, commands_of, context, byte_at, Pushed, Only, KindNext, Stepped, StepsNext, MarkNext, Passed, Ready, BodyNext, RowNext, Moved}
 use Rattle.program.proofs.Places.{width, somewhere, none_left, misplaced, too_deep}
 use Rattle.program.proofs.Trees.{goes_more, level_of, opened_level, body_ends}
 use Rattle.program.proofs.Counts.{count_more, opened_peak, peak_more}
@@ -19,40 +18,27 @@ use Rattle.program.proofs.Counts.{count_more, opened_peak, peak_more}
 pub only_body : (n x : ℕ) (c : Command) → mark c ≡ x → (x ≡ 67 → ⊥) → (x ≡ 80 → ⊥) → (x ≡ mark (end_mark n) → ⊥) → go (in_body_at n) c ≡ nowhere
 only_body n x (C s) e h k l = absurd (h (sym e))
 only_body n x (P s) e h k l = absurd (k (sym e))
-only_body n x (R s) e h k l = refl
-only_body n x Open e h k l = refl
-only_body zero x Bar e h k l = refl
-only_body (suc n) x Bar e h k l = absurd (l (sym e))
-only_body n x Close e h k l = refl
 only_body zero x Stop e h k l = absurd (l (sym e))
-only_body (suc n) x Stop e h k l = refl
+only_body (suc n) x Bar e h k l = absurd (l (sym e))
+only_body zero x _ e h k l = refl
+only_body (suc n) x _ e h k l = refl
 
 only_pivot : (n x : ℕ) (c : Command) → mark c ≡ x → (x ≡ 91 → ⊥) → go (at_pivot n) c ≡ nowhere
-only_pivot n x (C s) e h = refl
-only_pivot n x (P s) e h = refl
-only_pivot n x (R s) e h = refl
 only_pivot n x Open e h = absurd (h (sym e))
-only_pivot n x Bar e h = refl
-only_pivot n x Close e h = refl
-only_pivot n x Stop e h = refl
+only_pivot n x _ e h = refl
 
 pub only_row : (n x : ℕ) (c : Command) → mark c ≡ x → (x ≡ 82 → ⊥) → (x ≡ 93 → ⊥) → go (in_row_at n) c ≡ nowhere
-only_row n x (C s) e h k = refl
-only_row n x (P s) e h k = refl
 only_row n x (R s) e h k = absurd (h (sym e))
-only_row n x Open e h k = refl
-only_row n x Bar e h k = refl
 only_row n x Close e h k = absurd (k (sym e))
-only_row n x Stop e h k = refl
+only_row n x _ e h k = refl
 
 only_choice : (n x : ℕ) (c : Command) → mark c ≡ x → (x ≡ 67 → ⊥) → (x ≡ 80 → ⊥) → (x ≡ 82 → ⊥) → (x ≡ 93 → ⊥) → (x ≡ 124 → ⊥) → go (at_choice n) c ≡ nowhere
 only_choice n x (C s) e hc hp hr hk hb = absurd (hc (sym e))
 only_choice n x (P s) e hc hp hr hk hb = absurd (hp (sym e))
 only_choice n x (R s) e hc hp hr hk hb = absurd (hr (sym e))
-only_choice n x Open e hc hp hr hk hb = refl
 only_choice n x Bar e hc hp hr hk hb = absurd (hb (sym e))
 only_choice n x Close e hc hp hr hk hb = absurd (hk (sym e))
-only_choice n x Stop e hc hp hr hk hb = refl
+only_choice n x _ e hc hp hr hk hb = refl
 
 module _ (r : Reader) (n : ℕ) where
   by : {st st' : Context} (c : Command) → context r ≡ st → go st c ≡ st' → go (context r) c ≡ st'
@@ -82,20 +68,13 @@ module _ (r : Reader) (n : ℕ) where
     others = λ here hc hp c m l. by c e (only_choice n (byte_at r) c m hc hp (hr here) (hk here) l);
   })
 
-  pub row_begins : context r ≡ at_choice n → (byte_at r ≡ 82) ⊎ (byte_at r ≡ 93) → RowNext r n
-  row_begins e which = record {
-    on_r = λ s. by (R s) e refl;
-    ends = by Close e refl;
-    others = λ here h c m l. absurd (⊎_elim h l which);
-  }
-
   pub at_open : context r ≡ at_pivot n → Only r Open
   at_open e c m l = by c e (only_pivot n (byte_at r) c m l)
 
-step_written : (k : Kind) (s : Activity) → written (command_of k s) ≡ mark (command_of k s) ∷ operands s
-step_written Compensatable s = refl
-step_written Pivot s = refl
-step_written Retriable s = refl
+step_weight : (k : Kind) (s : Activity) → weight (command_of k s) ≡ 1
+step_weight Compensatable s = refl
+step_weight Pivot s = refl
+step_weight Retriable s = refl
 
 step_opens : (k : Kind) (s : Activity) (n : ℕ) → open_after n (command_of k s) ≡ n
 step_opens Compensatable s n = refl
@@ -103,10 +82,10 @@ step_opens Pivot s n = refl
 step_opens Retriable s n = refl
 
 module _ (r : Reader) where
-  pub low : opened 0 (commands_of r) ≤ 4
+  low : opened 0 (commands_of r) ≤ 4
   low = omega (arith, opened_peak 0 (commands_of r), r.within.shallow)
 
-  pub level : (context r ≡ nowhere → ⊥) → opened 0 (commands_of r) ≡ level_of (context r)
+  level : (context r ≡ nowhere → ⊥) → opened 0 (commands_of r) ≡ level_of (context r)
   level some = opened_level (commands_of r) (in_body_at 0) some
 
   pub choice_level : (n : ℕ) → context r ≡ at_choice n → n < 4
@@ -114,47 +93,19 @@ module _ (r : Reader) where
       let f = level (λ z. cc) ∙ ap level_of e in
       omega (arith, low)
 
-  within_mark : (c : Command) → weight c ≡ 0 → open_after (opened 0 (commands_of r)) c ≤ 4 → Within (commands_of r ++ c ∷ [])
-  within_mark c w h = record {
-    few = omega (arith, count_more (commands_of r) c, r.within.few);
-    shallow = peak_more 0 (commands_of r) c r.within.shallow h;
+  -- a mark that stands at the place keeps the limits
+  pub mark_within : (m : Command) → MarkNext r m → r.at < length (text_of r) → byte_at r ≡ mark m → Within (commands_of r ++ m ∷ [])
+  mark_within m next here is = record {
+    few = omega (arith, count_more (commands_of r) m, next.plain, r.within.few);
+    shallow = peak_more 0 (commands_of r) m r.within.shallow (next.low here is);
   }
 
-  plain_written : (c : Command) → weight c ≡ 0 → written c ≡ mark c ∷ []
-  plain_written (C s) w = absurd (omega arith)
-  plain_written (P s) w = absurd (omega arith)
-  plain_written (R s) w = absurd (omega arith)
-  plain_written Open w = refl
-  plain_written Bar w = refl
-  plain_written Close w = refl
-  plain_written Stop w = refl
-
-  -- a mark that stands at the place may be taken
-  pub mark_fits : (m : Command) → MarkNext r m → r.at < length (text_of r) → byte_at r ≡ mark m → Spelled r m × Within (commands_of r ++ m ∷ [])
-  mark_fits m next here is =
-      let w = plain_written m next.plain in
-      let long = ap length w in (
-        record {
-          fits = omega arith;
-          spelled = ap (λ k. take k (drop r.at (text_of r))) long ∙ ap (take 1) (drop_more (text_of r) r.at 0 here) ∙ ap (λ b. b ∷ []) is ∙ sym w;
-        },
-        within_mark m next.plain (next.low here is),
-      )
-
-  -- so may a step whose operands are there
-  pub step_fits : (k : Kind) (s : Activity) → StepNext r (command_of k s) → (r.steps < 32) × (r.at + 4 ≤ length (text_of r)) × (take 4 (drop r.at (text_of r)) ≡ byte_at r ∷ operands s) → Spelled r (command_of k s) × Within (commands_of r ++ command_of k s ∷ [])
-  step_fits k s next (few, fits, told) =
-      let w = step_written k s in
-      let long = ap length w in (
-        record {
-          fits = omega arith;
-          spelled = ap (λ n. take n (drop r.at (text_of r))) long ∙ told ∙ ap (λ b. b ∷ operands s) (sym next.letter) ∙ sym w;
-        },
-        record {
-          few = omega (arith, count_more (commands_of r) (command_of k s), next.step, r.count);
-          shallow = peak_more 0 (commands_of r) (command_of k s) r.within.shallow (omega (arith, step_opens k s (opened 0 (commands_of r)), low));
-        },
-      )
+  -- so does a step where there were fewer than 32
+  pub step_within : (k : Kind) (s : Activity) → r.steps < 32 → Within (commands_of r ++ command_of k s ∷ [])
+  step_within k s few = record {
+    few = omega (arith, count_more (commands_of r) (command_of k s), step_weight k s, r.count);
+    shallow = peak_more 0 (commands_of r) (command_of k s) r.within.shallow (omega (arith, step_opens k s (opened 0 (commands_of r)), low));
+  }
 
   -- the mark that a part leaves to its caller, where it is no opening bracket
   pub ready_next : (m : Command) (st : Context) → Ready r m st → (st ≡ nowhere → ⊥) → weight m ≡ 0 → open_after (opened 0 (commands_of r)) m ≤ opened 0 (commands_of r) → MarkNext r m
@@ -165,7 +116,7 @@ module _ (r : Reader) where
     only = ready.only;
   }
 
-pub pushed_context : (r r' : Reader) (c : Command) → Pushed r r' c → context r' ≡ go (context r) c
+pushed_context : (r r' : Reader) (c : Command) → Pushed r r' c → context r' ≡ go (context r) c
 pushed_context r r' c p = ap (goes (in_body_at 0)) p.grown ∙ goes_more (in_body_at 0) (commands_of r) c
 
 -- a reader that has taken a command has read it, and moved
@@ -179,16 +130,16 @@ pub moved_more : (r r' r'' : Reader) → Moved r r' → Moved r' r'' → Moved r
 moved_more r r' r'' m n = record { same = n.same ∙ m.same; forward = omega (arith, m.forward, n.forward) }
 
 -- a step of a row that may begin or go on can stand at the place where its letter does
-pub row_steps : (k : Kind) (r : Reader) (n : ℕ) → StepsNext k r n → r.at < length (text_of r) → byte_at r ≡ letter_of k → KindNext r k
-row_steps Compensatable r n next here is s = record { here = here; letter = sym is; step = refl; leads = λ e. let f : in_body_at n ≡ nowhere = sym (next.on_c s) ∙ e in cc }
-row_steps Pivot r n next here is s = absurd next
-row_steps Retriable r n next here is s = record { here = here; letter = sym is; step = refl; leads = λ e. let f : in_row_at n ≡ nowhere = sym (next.on_r s) ∙ e in cc }
+pub steps_next : (k : Kind) (r : Reader) (n : ℕ) → StepsNext k r n → r.at < length (text_of r) → byte_at r ≡ letter_of k → KindNext r k
+steps_next Compensatable r n next here is s = record { here = here; letter = sym is; step = refl; leads = λ e. let f : in_body_at n ≡ nowhere = sym (next.on_c s) ∙ e in cc }
+steps_next Pivot r n next here is s = absurd next
+steps_next Retriable r n next here is s = record { here = here; letter = sym is; step = refl; leads = λ e. let f : in_row_at n ≡ nowhere = sym (next.on_r s) ∙ e in cc }
 
 -- and the row goes on after it
-pub row_on : (k : Kind) (r r' : Reader) (n : ℕ) → StepsNext k r n → Stepped r r' k → StepsNext k r' n
-row_on Compensatable r r' n next (s, p) = body_goes_on r' n (p.stands ∙ next.on_c s)
-row_on Pivot r r' n next p = next
-row_on Retriable r r' n next (s, p) = row_goes_on r' n (p.stands ∙ next.on_r s)
+pub steps_on : (k : Kind) (r r' : Reader) (n : ℕ) → StepsNext k r n → Stepped r r' k → StepsNext k r' n
+steps_on Compensatable r r' n next (s, p) = body_goes_on r' n (p.stands ∙ next.on_c s)
+steps_on Pivot r r' n next p = next
+steps_on Retriable r r' n next (s, p) = row_goes_on r' n (p.stands ∙ next.on_r s)
 
 -- what stands where only the mark m can stand, and does not
 module _ (r : Reader) (m : Command) (next : MarkNext r m) where

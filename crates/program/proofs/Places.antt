@@ -1,12 +1,12 @@
 -- A reader between two commands: one command more, and a refusal at its place.
-use Rattle.std.proofs.Common.{◌≡◌, ℕ, ◌+◌, ◌-◌, ◌*◌, ◌/◌, ◌%◌, ◌<◌, ◌≤◌, List, [], ◌∷◌, ◌++◌, length, get_or, take, drop, set, sym, refl, ap, ◌∙◌, subst, arith, length-append, length-drop, length-set, take-append-drop, length-take-le, take-add}
+use Rattle.std.proofs.Common.{◌≡◌, ℕ, ◌+◌, ◌-◌, ◌*◌, ◌<◌, ◌≤◌, List, [], ◌∷◌, ◌++◌, length, take, drop, set, sym, refl, ap, ◌∙◌, subst, arith, length-append, length-drop, take-append-drop, length-take-le, take-add}
 use Rattle.std.proofs.lemmas.List.{take_all, take_more_set, drop_more, drop_all}
 use Rattle.program.specs.declared.command.Command.{Command}
 use Rattle.program.specs.declared.command.Command.TheVariants.{C, P, R, Open, Bar, Close, Stop}
 use Rattle.program.specs.declared.refusal.Fault.{Fault}
 use Rattle.program.specs.declared.refusal.Fault.TheVariants.{TooLong, Misplaced, CutOff, TooManySteps, TooDeep, Trailing}
 use Rattle.program.specs.declared.reader.Reader.{Reader}
-use Rattle.program.specs.Grammar.{mark, written, operands, bytes, text_commands, Yields, Yielded}
+use Rattle.program.specs.Grammar.{mark, written, bytes, text_commands, Yields, Yielded}
 use Rattle.program.specs.Places.{body_at}
 use Rattle.program.specs.Refusals.{weight, step_count, Within, Whole, opened, Stands, Reason, Stuck, Refused, number_of}
 use Rattle.program.specs.Contexts.{Context, in_body_at, nowhere, over, go}

@@ -34,6 +34,7 @@ pub record Spelled (r : Reader) (c : Command) : Type 0 where
   pub fits : r.at + length (written c) ≤ length (text_of r)
   pub spelled : take (length (written c)) (drop r.at (text_of r)) ≡ written c
 
+-- the command c was taken: it comes after those read before, and the place is past its bytes
 pub record Pushed (r r' : Reader) (c : Command) : Type 0 where
   pub grown : commands_of r' ≡ commands_of r ++ c ∷ []
   pub same : text_of r' ≡ text_of r
@@ -50,6 +51,7 @@ pub record StepNext (r : Reader) (c : Command) : Type 0 where
 abbrev pub KindNext : Reader → Kind → Type 0
 KindNext r k = (s : Activity) → StepNext r (command_of k s)
 
+-- the operands s of the step at the place, which keeps the limit on steps, or the refusal
 abbrev pub Operands : Reader → Result Activity Refusal → Type 0
 Operands r (Ok s) = (r.steps < 32) × (r.at + 4 ≤ length (text_of r)) × (take 4 (drop r.at (text_of r)) ≡ byte_at r ∷ operands s)
 Operands r (Err e) = Refused (text_of r) e.fault e.place
@@ -98,6 +100,7 @@ StepsNext Compensatable = BodyNext
 StepsNext Pivot = λ r n. ⊥
 StepsNext Retriable = RowNext
 
+-- the same text, at the same place or further on
 pub record Moved (r r' : Reader) : Type 0 where
   pub same : text_of r' ≡ text_of r
   pub forward : r.at ≤ r'.at
@@ -107,6 +110,7 @@ pub record RowRead (r : Reader) (x : ℕ) (Next : Type 0) : Type 0 where
   pub on : Next
   pub ended : r.at < length (text_of r) → byte_at r ≢ x
 
+-- a part read what Next says, or the text is refused
 abbrev pub Reads : Reader → Reader → Type 0 → Result (Unit {0}) Refusal → Type 0
 Reads r r' Next (Ok u) = Moved r r' × Next
 Reads r r' Next (Err e) = Refused (text_of r) e.fault e.place

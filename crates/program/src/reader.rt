@@ -59,6 +59,7 @@ struct Reader<'a> {
     // A table with its length: nothing here allocates, so the memory for the commands is fixed.
     commands: [Command; MAX_BYTES],
     len: usize,
+    // Between two commands: the bytes up to the place are those of the commands read, which keep the limits.
     ghost split: { take at text.now ≡ bytes (take len commands) },
     ghost inside: { at ≤ length text.now },
     ghost short: { length text.now ≤ 255 },
@@ -153,8 +154,8 @@ impl Reader<'_> {
         }
     }
 
-    // Any number of steps of one kind: the compensatable ones of a body, or the retriable ones that end a pivot's choices.
-    fn steps(&mut self, kind: Kind, depth: usize) -> Result<(), Refusal>
+    // A row of steps of one kind, perhaps none: the compensatable ones of a body, or the retriable ones that end a pivot's choices.
+    fn row(&mut self, kind: Kind, depth: usize) -> Result<(), Refusal>
         requires { StepsNext kind self.old depth }
         ensures { Reads self.old self.new (RowRead self.new (letter_of kind) (StepsNext kind self.new depth)) result }
     {
@@ -172,7 +173,7 @@ impl Reader<'_> {
         requires { BodyNext self.old depth }
         ensures { Reads self.old self.new (Ready self.new (end_mark depth) (after_end depth)) result }
     {
-        self.steps(Kind::Compensatable, depth)?;
+        self.row(Kind::Compensatable, depth)?;
         match self.peek() {
             Some('P') => {
                 self.step(Kind::Pivot)?;
@@ -192,7 +193,7 @@ impl Reader<'_> {
     {
         loop {
             match self.peek() {
-                Some('R' | ']') => return self.steps(Kind::Retriable, depth),
+                Some('R' | ']') => return self.row(Kind::Retriable, depth),
                 _ => {
                     self.body(depth + 1)?;
                     self.expect(Command::Bar)?;

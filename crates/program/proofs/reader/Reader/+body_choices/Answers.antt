@@ -1,7 +1,7 @@
-use Rattle.std.proofs.Common.{refl, add-one, arith, rules}
+use Rattle.std.proofs.Common.{length, refl, ap, add-one, arith, rules}
 use Rattle.program.specs.declared.command.Command.TheVariants.{Bar, Close}
 use Rattle.program.specs.Contexts.{at_choice, closed}
-use Rattle.program.proofs.Parts.{ready_next, choice_level}
+use Rattle.program.proofs.Parts.{choice_goes_on, ready_next, choice_level}
 use Rattle.program.proofs.reader.Reader.+body_choices.Goals as goal
 
 pub body-expect-requires : goal.body-expect-requires
@@ -10,6 +10,13 @@ body-expect-requires t c =
 
 pub choices-overflow_add-depth : goal.choices-overflow_add-depth
 choices-overflow_add-depth t c = search (rules, choice_level c.loop-self.self c.args.depth c.loop-self.invariant.1)
+
+pub choices-body-requires : goal.choices-body-requires
+choices-body-requires t c =
+    let inv = c.loop-self.invariant in (
+      omega (arith, c.decreases, inv.0.forward, c.loop-self.self.inside, ap length inv.0.same),
+      choice_goes_on c.loop-self.self c.args.depth inv.1 (λ here is. search rules) (λ here is. search rules),
+    )
 
 pub choices-expect-requires : goal.choices-expect-requires
 choices-expect-requires t c =

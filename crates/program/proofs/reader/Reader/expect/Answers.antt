@@ -1,9 +1,9 @@
 use Rattle.std.proofs.Common.{sym, ◌∙◌}
-use Rattle.program.proofs.Parts.{mark_fits, pushed_on, mark_refused, end_refused}
+use Rattle.program.proofs.Parts.{mark_within, pushed_on, mark_refused, end_refused}
 use Rattle.program.proofs.reader.Reader.expect.Goals as goal
 
 pub push-requires-clause-within : goal.push-requires-clause-within
-push-requires-clause-within c = (mark_fits c.args.self.now c.args.m c.requires c.in-Some.ensures.0 (sym c.in-Some.ensures.1 ∙ c.if-b-letter.true ∙ c.letter.ensures)).1
+push-requires-clause-within c = mark_within c.args.self.now c.args.m c.requires c.in-Some.ensures.0 (sym c.in-Some.ensures.1 ∙ c.if-b-letter.true ∙ c.letter.ensures)
 
 pub returns-in-Some : goal.returns-in-Some
 returns-in-Some c = pushed_on _ _ _ c.push.ensures

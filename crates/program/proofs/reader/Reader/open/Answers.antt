@@ -1,16 +1,9 @@
-use Rattle.std.proofs.Common.{sym, ◌∙◌, arith, rules}
+use Rattle.std.proofs.Common.{sym, ◌∙◌, rules}
 use Rattle.program.proofs.Parts.{open_next, fifth_bracket}
 use Rattle.program.proofs.reader.Reader.open.Goals as goal
-use Rattle.program.proofs.reader.Reader.open.Goals.{in_default-via-in-Some-eq91+else-depth-ge-MAX_DEPTH, in_default-via-in-Some+in_default, in_default-via-in_default}
 
 pub expect-requires : goal.expect-requires
-expect-requires c =
-    open_next c.args.self.now c.args.depth c.requires
-        (λ here is. elim c.in_default.branch [
-          | in_default-via-in-Some-eq91+else-depth-ge-MAX_DEPTH w ↦ search rules
-          | in_default-via-in-Some+in_default w ↦ search rules
-          | in_default-via-in_default w ↦ search rules
-        ])
+expect-requires c = open_next c.args.self.now c.args.depth c.requires (λ here is. search rules)
 
 pub returns-in-Some-eq91 : goal.returns-in-Some-eq91
 returns-in-Some-eq91 c =

@@ -1,6 +1,6 @@
 use Rattle.activity.specs.declared.Activity.{Activity}
 use Rattle.program.specs.Grammar.{command_of}
-use Rattle.program.proofs.Parts.{step_fits, pushed_on}
+use Rattle.program.proofs.Parts.{step_within, pushed_on}
 use Rattle.program.proofs.reader.Reader.step.Goals as goal
 
 pub operands-requires : goal.operands-requires
@@ -8,11 +8,8 @@ operands-requires c =
     let some : Activity = record { number = 0; parameter = 0 } in
     (command_of c.args.kind some, c.requires some)
 
-pub push-requires : goal.push-requires
-push-requires c =
-    let activity = c.in_ok-activity.activity in
-    let fit = step_fits c.args.self.now c.args.kind activity (c.requires activity) c.in_ok-activity.ensures in
-    rw c.command.ensures (record { here = fit.0; within = fit.1 })
+pub push-requires-clause-within : goal.push-requires-clause-within
+push-requires-clause-within c = rw c.command.ensures (step_within c.args.self.now c.args.kind c.in_ok-activity.activity c.in_ok-activity.ensures.0)
 
 pub returns : goal.returns
 returns c =

@@ -1,6 +1,6 @@
 use Rattle.std.proofs.Common.{◌-◌, length}
 use Rattle.program.specs.Reads.{text_of, Moved, StepsNext}
-use Rattle.program.proofs.reader.Reader.steps.Given as goal
+use Rattle.program.proofs.reader.Reader.row.Given as goal
 
 abbrev pub invariant-loop-self : goal.invariant-loop-self
 invariant-loop-self l = Moved l.initial.self l.self × StepsNext l.kind l.self l.depth
