@@ -16,7 +16,8 @@ use Rattle.program.specs.Positions.{Position}
 use Rattle.protocol.specs.Log.{owned, own, Split, rejoined, removed, pivoted, group, number, prior, committed_under, from_pivot}
 use Rattle.protocol.specs.Hall.{Process, Hall, find, changed, move, past_pivot, record_of, standing_after}
 use Rattle.protocol.specs.StepFunction.{holds_conflict, holds_any_conflict, stands_before_conflict, performed, undone, committing}
-use Rattle.protocol.proofs.Members.{or_off, In, Before, all_from, before_first, before_second, in_push, before_push, in_more, before_more, before_here, in_here, in_map, before_map, any_none, any_push, any_more, any_map, in_kept, any_kept}
+use Rattle.protocol.proofs.Tests.{or_off}
+use Rattle.protocol.proofs.Members.{In, Before, all_from, before_first, before_second, in_push, before_push, in_more, before_more, before_here, in_here, in_map, before_map, any_none, any_push, any_more, any_map, in_kept, any_kept}
 use Rattle.protocol.proofs.Processes.{found_start, from_changed, to_changed, find_without, from_without}
 use Rattle.protocol.proofs.Ranks.{Rank, committed, pivoting, waiting, rank, Later, later, not_prior}
 use Rattle.protocol.proofs.Sealed.{sealed}

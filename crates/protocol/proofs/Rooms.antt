@@ -26,12 +26,12 @@ use Rattle.protocol.specs.CallFunction.{against_open, loaded, opened, outcome, e
 use Rattle.protocol.proofs.CallCases.{cases}
 use Rattle.protocol.specs.Statements.{without_commit_number}
 use Rattle.protocol.proofs.Computed.{hall_after}
-use Rattle.protocol.proofs.Members.{In, all_at}
+use Rattle.protocol.proofs.Members.{In, kept_in, all_at}
 use Rattle.protocol.proofs.Processes.{marked_keeps, from_map, from_changed, from_without, from_push}
 use Rattle.protocol.proofs.Objections.{openable}
 use Rattle.protocol.proofs.LastRecords.{NotOf, Loose, LooseIs, loose_is}
 use Rattle.protocol.proofs.PivotsStay.{own_none, own_sealed, pivot_sealed, pivot_plain}
-use Rattle.protocol.proofs.Counts.{parts, size, Roomy, roomy_few, roomy_alike, NextRoom, next_room, own_pushed, own_taken, own_left, own_others, none_loose, closed_push, closed_less, closed_sealed, without_less, kept_in, fewer_own, spread}
+use Rattle.protocol.proofs.Counts.{parts, size, Roomy, roomy_few, roomy_alike, NextRoom, next_room, own_pushed, own_taken, own_left, own_others, none_loose, closed_push, closed_less, closed_sealed, without_less, fewer_own, spread}
 use Rattle.protocol.specs.Held.{rest_size}
 pub use Rattle.protocol.specs.Held.{Rooms}
 use Rattle.protocol.proofs.Sound.{Sound}

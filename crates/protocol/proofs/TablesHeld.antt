@@ -5,7 +5,7 @@ use mathlib.Core.HLevel.{Unit-prop, ×_prop}
 use native.Mathlib.Bridge.{le_prop}
 use Rattle.serial.specs.Sorts.{Pairwise}
 use Rattle.std.specs.List.{AllByRecursion}
-use Rattle.std.proofs.lemmas.Bool.{eqb-true, eqb-false, true≢false, and_left, and_right, cases_Bool}
+use Rattle.std.proofs.lemmas.Bool.{cond_both, eqb-true, eqb-false, true≢false, and_left, and_right, cases_Bool}
 use Rattle.std.proofs.lemmas.Option.{none-some}
 use Rattle.std.proofs.lemmas.List.{length_push}
 use Rattle.activity.specs.declared.Activity.{Activity}
@@ -40,11 +40,10 @@ pub record Owned {S : Type 0} (h : Hall S) : Type 0 where
 
 found_low : (g n : ℕ) (ps : List Process) (q : Process) → AllByRecursion (λ x. x.start ≤ g) ps → find n ps ≡ Some q → n ≤ g
 found_low g n [] q all e = absurd (none-some _ e)
-found_low g n (p ∷ ps) q all e = go (eqb p.start n) refl e (found_low g n ps q all.1)
-  where
-    go : (b : Bool) → eqb p.start n ≡ b → cond b (Some p) (find n ps) ≡ Some q → (find n ps ≡ Some q → n ≤ g) → n ≤ g
-    go true t f on = omega (arith, eqb-true p.start n t, all.0)
-    go false t f on = on f
+found_low g n (p ∷ ps) q all e = cond_both (eqb p.start n) (Some p) (find n ps) (λ o. o ≡ Some q → n ≤ g)
+    (λ t f. omega (arith, eqb-true p.start n t, all.0))
+    (λ _ f. found_low g n ps q all.1 f)
+    e
 
 failed_past : (st : Standing) → past_pivot (failed st) ≡ false → past_pivot st ≡ false
 failed_past Running e = refl
@@ -60,11 +59,10 @@ led_plain true st e = absurd (true≢false e)
 led_plain false st e = refl
 
 sealed_open : (n c : ℕ) (r : Record) → (committed_under n (suc c) r).commit ≡ 0 → (r.commit ≡ 0) × (r.start ≡ n → ⊥)
-sealed_open n c r e = go (owned n r) refl e
-  where
-    go : (b : Bool) → eqb r.start n ≡ b → (cond b record { start = r.start; activity = r.activity; answer = r.answer; commit = suc c; pivot = r.pivot } r).commit ≡ 0 → (r.commit ≡ 0) × (r.start ≡ n → ⊥)
-    go true t f = absurd (omega arith)
-    go false t f = (f, eqb-false r.start n t)
+sealed_open n c r e = cond_both (owned n r) record { start = r.start; activity = r.activity; answer = r.answer; commit = suc c; pivot = r.pivot } r (λ x. x.commit ≡ 0 → (r.commit ≡ 0) × (r.start ≡ n → ⊥))
+    (λ t f. absurd (omega arith))
+    (λ t f. (f, eqb-false r.start n t))
+    e
 
 all_prop : (p : Process) (ps : List Process) → (x y : AllByRecursion (λ b. p.start < b.start) ps) → x ≡ y
 all_prop p [] = Unit-prop

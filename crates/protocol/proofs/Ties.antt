@@ -4,7 +4,7 @@ use Rattle.std.proofs.lemmas.Bool.{eq-eqb, eqb-true, or_cases, and_parts, ltb-tr
 use Rattle.protocol.specs.declared.record.Record.{Record}
 use Rattle.protocol.specs.Log.{owned, own, group, number, prior}
 use Rattle.protocol.proofs.Members.{In, in_kept}
-use Rattle.protocol.proofs.Counts.{kept_in}
+use Rattle.protocol.proofs.Members.{kept_in}
 use Rattle.protocol.proofs.Ranks.{Rank, committed, pivoting, waiting, rank}
 
 -- what b may go before
