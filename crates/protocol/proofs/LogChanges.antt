@@ -2,7 +2,7 @@
 use Rattle.std.proofs.Common.{◌≡◌, ℕ, suc, ◌<◌, ◌≤◌, Bool, true, false, cond, ◌&&◌, ◌||◌, eqb, ◌⊎◌, List, [], ◌∷◌, ◌++◌, map, Some, sym, refl, ap, ◌∙◌, subst, inl, inr, ⊎_elim, arith}
 use Rattle.std.specs.List.{list_any}
 use mathlib.Core.Path.{fun_ext}
-use Rattle.std.proofs.lemmas.Bool.{true≢false, false≢true, eqb-true, eqb-false, eq-eqb, ne_eqb, and_from, or_parts, or_left, or_right, and_left, and_cases, cases_eq, and_right, both_ways}
+use Rattle.std.proofs.lemmas.Bool.{eq-eqb, ne_eqb, and_from, or_parts, or_left, or_right, and_left, cases_eq, and_right, both_ways}
 use Rattle.serial.specs.Replay.{Replays}
 use Rattle.serial.specs.Actions.{KeepsGood, Commutes, Restores}
 use Rattle.serial.proofs.Replaying.{replay_push}

@@ -1,16 +1,13 @@
 -- Every call leaves room in the log.
-use Rattle.std.proofs.Common.{◌≡◌, ℕ, zero, suc, ◌+◌, ◌*◌, ◌≤◌, Bool, true, false, cond, not, ◌&&◌, eqb, ltb, leb, List, [], ◌∷◌, ◌++◌, map, length, get_or, is_some, Some, None, filter, Option, sym, refl, ap, ◌∙◌, subst, ⊎_elim, append-nil, arith}
+use Rattle.std.proofs.Common.{◌≡◌, ℕ, zero, suc, ◌+◌, ◌*◌, ◌≤◌, Bool, true, false, cond, not, ◌&&◌, eqb, List, [], ◌∷◌, ◌++◌, map, length, get_or, Some, None, filter, Option, sym, refl, ap, ◌∙◌, subst, ⊎_elim, append-nil, arith}
 use Rattle.std.specs.List.{AllByRecursion}
-use Rattle.std.proofs.lemmas.Bool.{eqb-true, eq-eqb, ne_eqb, ltb-false, cases_eq, cond_both}
-use Rattle.std.specs.Bool.{then_some}
-use Rattle.std.specs.Option.{option_or}
+use Rattle.std.proofs.lemmas.Bool.{eqb-true, eq-eqb, ne_eqb, cases_eq, cond_both}
 use Rattle.std.proofs.lemmas.Option.{none-some}
 use Rattle.std.proofs.lemmas.List.Filters.{length-filter_both}
 use Rattle.std.proofs.lemmas.List.{length-map, length_push}
 use Rattle.serial.proofs.Lists.{all_set}
 use Rattle.activity.specs.declared.Activity.{Activity}
 use Rattle.protocol.specs.declared.record.Record.{Record}
-use Rattle.protocol.specs.declared.answer.Refusal.TheVariants.{NoPlace, NotLoaded, Full, NoNumber, NoRoom}
 use Rattle.protocol.specs.declared.standing.Aim.TheVariants.{Restart, End}
 use Rattle.protocol.specs.declared.standing.Direction.TheVariants.{Forward}
 use Rattle.protocol.specs.declared.standing.Standing.TheVariants.{Running, Withdrawing, PastPivot}
@@ -22,7 +19,7 @@ use Rattle.protocol.specs.Log.{Split, own, removed, returnable, to_pivot, from_p
 use Rattle.protocol.specs.Hall.{Process, Hall, fresh, find, without, change, changed, stand, move, with_processes, running, body_of, beginning, failed, standing_after, record_of}
 use Rattle.protocol.specs.StepFunction.{marked, performed, undone, committing}
 use Rattle.protocol.specs.Call.{Call, Event}
-use Rattle.protocol.specs.CallFunction.{against_open, loaded, opened, outcome, ends, all_singles}
+use Rattle.protocol.specs.CallFunction.{loaded, opened, outcome, ends, all_singles}
 use Rattle.protocol.proofs.CallCases.{cases}
 use Rattle.protocol.specs.Statements.{without_commit_number}
 use Rattle.protocol.proofs.Computed.{hall_after}

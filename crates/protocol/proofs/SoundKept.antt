@@ -1,6 +1,6 @@
 -- Every call keeps a hall sound.
 use Rattle.std.proofs.Common.{◌≡◌, ℕ, suc, ◌≤◌, Bool, true, false, not, ◌&&◌, ◌||◌, List, [], ◌∷◌, is_some, Some, None, Option, sym, refl, ap, ◌∙◌, subst, inl, inr, ⊎_elim}
-use Rattle.std.proofs.lemmas.Bool.{true≢false, false≢true, ne_eqb, and_cases, or_parts, ltb-false, both_ways, cases_Bool}
+use Rattle.std.proofs.lemmas.Bool.{true≢false, false≢true, ne_eqb, and_cases, or_parts, ltb-false, cases_Bool}
 use Rattle.activity.specs.declared.Activity.{Activity}
 use Rattle.protocol.specs.declared.standing.Aim.{Aim}
 use Rattle.protocol.specs.declared.standing.Standing.{Standing}
@@ -11,7 +11,7 @@ use Rattle.station.specs.Meaning.{Meaning}
 use Rattle.protocol.specs.Means.{Laws}
 use Rattle.program.specs.Positions.{Position, outer, inner, into, alternative_of}
 use Rattle.protocol.specs.Ahead.{Next, plain, crossing, next}
-use Rattle.protocol.specs.Log.{returnable, own, from_pivot, pivoted}
+use Rattle.protocol.specs.Log.{returnable, own, from_pivot}
 use Rattle.protocol.specs.Hall.{Process, Hall, find, past_pivot, retreating, stand, move, beginning, failed}
 use Rattle.protocol.specs.StepFunction.{holds_conflict, holds_any_conflict, stands_before_conflict, other, younger, blocks_plain, blocks_pivot, blocks_alone, performed}
 use Rattle.protocol.specs.Call.{Call}

@@ -17,7 +17,7 @@ use Rattle.protocol.specs.declared.standing.Standing.TheVariants.{Running, Withd
 use Rattle.station.specs.Meaning.{Meaning}
 use Rattle.program.specs.Positions.{Position, alternative_of, into}
 use Rattle.protocol.specs.Ahead.{next, plain, crossing}
-use Rattle.protocol.specs.Log.{Split, owned, own, removed, returnable, pivoted, committed_under}
+use Rattle.protocol.specs.Log.{Split, owned, own, removed, returnable, committed_under}
 use Rattle.protocol.specs.Hall.{Process, Hall, fresh, find, without, changed, stand, move, with_processes, past_pivot, running, beginning, failed, standing_after, record_of}
 use Rattle.protocol.specs.StepFunction.{marked, performed}
 use Rattle.protocol.specs.Call.{Call}
