@@ -13,8 +13,7 @@ use Rattle.protocol.specs.Room.{HasRoom, Bounded, StaysBounded}
 use Rattle.protocol.proofs.Computed.{tells, history}
 use Rattle.protocol.proofs.CallsExact.{calls_exactly, scans_exactly, served}
 use Rattle.protocol.proofs.Promise as promise
-use Rattle.protocol.proofs.Rooms as rooms
-use Rattle.protocol.proofs.Bounds as bounds
+use Rattle.protocol.proofs.TablesHeld.{always_held, held_few}
 
 module _ {S : Type 0} (M : Meaning S) where
   told_is : (h : Hall S) (rs : List Request) → scan_told (scan_outcome M h rs).records (scan_outcome M h rs).refusal ≡ tells M h (scan rs)
@@ -66,7 +65,7 @@ module _ {S : Type 0} (M : Meaning S) where
         subst (λ l. Fixed l (ts ++ us) n) (sym told) (subst (λ l. Fixed (history M (fresh s) es) l n) (sym all) (promise.stays M laws s es more n))
 
     pub has_room : HasRoom M
-    has_room s es ts h r = subst (λ g. length g.log ≤ 1024) (sym (only_computed (fresh s) es ts h r).1) (rooms.has_room M laws s es)
+    has_room s es ts h r = subst (λ g. length g.log ≤ 1024) (sym (only_computed (fresh s) es ts h r).1) (held_few _ (always_held M laws s es))
 
     pub stays_bounded : StaysBounded M
-    stays_bounded s es ts h r = subst Bounded (sym (only_computed (fresh s) es ts h r).1) (bounds.stays_bounded M laws s es)
+    stays_bounded s es ts h r = subst Bounded (sym (only_computed (fresh s) es ts h r).1) (always_held M laws s es).bounded

@@ -174,22 +174,14 @@ module _ {S : Type 0} (M : Meaning S) where
     turns = λ p is e none. rooms_changed h rooms p.start p is (move (PastPivot Forward) (into (suc (alternative_of p.at)) p.at)) (λ q. refl) (into_room (own p.start h.log) p.at (suc (alternative_of p.at)) (none_loose p.start h.log none) (rooms.actives p.start p is));
   }
 
-module _ {S : Type 0} (M : Meaning S) (laws : Laws M) (s : S) where
-  rooms_outcome : (h : Hall S) → Sound M s h → Rooms h → (c : Call) → Rooms (outcome M h c).hall
-  rooms_outcome h sound rooms = rooms_by M h (λ r i (f : r.start ≡ suc h.given). omega (arith, (sound.owners r i).low)) (λ p is e none. none_left M laws s h sound p is e none) rooms
-
-  rooms_ends : (h : Hall S) → Sound M s h → Rooms h → (cs : List Call) → Rooms (ends M h cs)
-  rooms_ends h sound rooms [] = rooms
-  rooms_ends h sound rooms (c ∷ cs) = rooms_ends (outcome M h c).hall (sound_outcome M laws s h sound c) (rooms_outcome h sound rooms c) cs
-
-  pub rooms_fresh : Rooms (fresh s)
-  rooms_fresh = record {
+module _ {S : Type 0} where
+  pub rooms_fresh : (s : S) → Rooms (fresh s)
+  rooms_fresh s = record {
     programs = (omega arith, (omega arith, (omega arith, (omega arith, (omega arith, (omega arith, (omega arith, (omega arith, tt))))))));
     actives = λ n q e. absurd (none-some _ e);
     budget = omega arith;
   }
 
-module _ {S : Type 0} where
   pub few : (h : Hall S) → ((r : Record) → In r h.log → r.commit ≡ 0 → (q : Process) × (find r.start h.processes ≡ Some q)) → Rooms h → length h.log ≤ 1024
   few h active rooms =
       let open-few = spread h.processes (filter (λ r. eqb r.commit 0) h.log)
@@ -200,6 +192,3 @@ module _ {S : Type 0} where
       each : (n : ℕ) (o : Option Process) → find n h.processes ≡ o → length (own n (filter (λ r. eqb r.commit 0) h.log)) ≤ 32
       each n (Some q) e = omega (arith, fewer_own n (λ r. eqb r.commit 0) h.log, roomy_few (own n h.log) q.at (rooms.actives n q e))
       each n None e = omega (arith, ap length (own_none n (filter (λ r. eqb r.commit 0) h.log) (λ r i f. let (j, c) = kept_in (λ r. eqb r.commit 0) h.log r i in let (q, at) = active r j (eqb-true r.commit 0 c) in none-some _ (sym e ∙ ap (λ k. find k h.processes) (sym f) ∙ at))))
-
-pub has_room : {S : Type 0} (M : Meaning S) → Laws M → (s : S) (es : List Event) → length (hall_after M s es).log ≤ 1024
-has_room M laws s es = subst (λ h. length h.log ≤ 1024) (sym (all_is M laws (fresh s) es)) (few (ends M (fresh s) (all_singles es)) (λ r i. ((sound_ends M laws s (fresh s) (sound_fresh M s) (all_singles es)).owners r i).active) (rooms_ends M laws s (fresh s) (sound_fresh M s) (rooms_fresh M laws s) (all_singles es)))

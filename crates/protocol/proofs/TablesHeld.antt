@@ -20,8 +20,8 @@ use Rattle.protocol.specs.Ahead.{next, plain, crossing}
 use Rattle.protocol.specs.Log.{Split, owned, own, removed, returnable, committed_under}
 use Rattle.protocol.specs.Hall.{Process, Hall, fresh, find, without, changed, stand, move, with_processes, past_pivot, running, beginning, failed, standing_after, record_of}
 use Rattle.protocol.specs.StepFunction.{marked, performed}
-use Rattle.protocol.specs.Call.{Call}
-use Rattle.protocol.specs.CallFunction.{outcome}
+use Rattle.protocol.specs.Call.{Call, Event}
+use Rattle.protocol.specs.CallFunction.{outcome, ends, all_singles}
 use Rattle.protocol.specs.Room.{Bounded}
 use Rattle.protocol.specs.Held.{Held, Roomy}
 use Rattle.protocol.proofs.CallCases.{cases}
@@ -29,9 +29,12 @@ use Rattle.protocol.proofs.Members.{In, in_push, in_more, in_map, none_any}
 use Rattle.protocol.proofs.Processes.{marked_keeps, from_map, to_map, from_changed, to_changed, find_without, from_without, from_push, to_push}
 use Rattle.protocol.proofs.Sealed.{sealed}
 use Rattle.protocol.proofs.LastRecords.{none_own, NotOf, Last, LooseIs, loose_is}
-use Rattle.protocol.proofs.Rooms.{rooms_by, rooms_done, few}
+use Rattle.protocol.proofs.Rooms.{rooms_by, rooms_done, rooms_fresh, few}
 use Rattle.protocol.proofs.Counts.{NextRoom, next_room}
-use Rattle.protocol.proofs.Bounds.{bounded_outcome}
+use Rattle.protocol.proofs.Bounds.{bounded_fresh, bounded_outcome}
+use Rattle.protocol.proofs.Computed.{hall_after}
+use Rattle.protocol.proofs.Promise.{all_is}
+use Rattle.protocol.specs.Means.{Laws}
 
 pub record Owned {S : Type 0} (h : Hall S) : Type 0 where
   pub low : (r : Record) → In r h.log → r.start ≤ h.given
@@ -220,16 +223,20 @@ module _ {S : Type 0} where
 
   pub held_fresh : (s : S) → Held (fresh s)
   held_fresh s = record {
-    bounded = record { given = omega arith; active = omega arith; committed = omega arith; rising = tt; starts = tt };
-    rooms = record {
-      programs = (omega arith, (omega arith, (omega arith, (omega arith, (omega arith, (omega arith, (omega arith, (omega arith, tt))))))));
-      actives = λ n q e. absurd (none-some _ e);
-      budget = omega arith;
-    };
+    bounded = bounded_fresh s;
+    rooms = rooms_fresh s;
     low = λ r i. elim i [ ];
     active = λ r i. elim i [ ];
     unpivoted = λ n q e. absurd (none-some _ e);
   }
+
+  held_ends : (M : Meaning S) (h : Hall S) → Held h → (cs : List Call) → Held (ends M h cs)
+  held_ends M h d [] = d
+  held_ends M h d (c ∷ cs) = held_ends M (outcome M h c).hall (held_outcome M h d c) cs
+
+  -- so it is in every hall that the functions compute
+  pub always_held : (M : Meaning S) → Laws M → (s : S) (es : List Event) → Held (hall_after M s es)
+  always_held M laws s es = subst Held (sym (all_is M laws (fresh s) es)) (held_ends M (fresh s) (held_fresh s) (all_singles es))
 
   pub rising : (h : Hall S) → ∥ Held h ∥₁ → Pairwise (λ a b. a.start < b.start) h.processes
   rising h s = ∥∥₁_elim s (rising_prop h.processes) (λ d. d.bounded.rising)

@@ -1,9 +1,9 @@
 -- Small facts on tests, and on what a filter keeps and a search finds.
-use Rattle.std.proofs.Common.{◌≡◌, ◌+◌, ◌≤◌, Bool, true, false, cond, ◌||◌, List, [], ◌∷◌, map, length, Some, sym, refl, ap, ◌∙◌, filter, arith}
+use Rattle.std.proofs.Common.{◌≡◌, ◌+◌, ◌≤◌, Bool, true, false, cond, ◌||◌, List, [], ◌∷◌, map, length, Some, sym, refl, ap, ◌∙◌, filter, arith, ℕ, ◌<◌, not, ◌&&◌, eqb, ltb, leb, ◌⊎◌, inl, inr, ⊎_elim}
 use Rattle.std.specs.Option.{option_map}
 use Rattle.std.specs.List.{find}
 use Rattle.std.proofs.Math.Bool.{or-false}
-use Rattle.std.proofs.lemmas.Bool.{cond_both, cond-false, false_from_ne_true, both_ways}
+use Rattle.std.proofs.lemmas.Bool.{cond_both, cond-false, false_from_ne_true, both_ways, and_parts, and_from, or_cases, or_left, or_right, not-true, not_from_false, eqb-true, eq-eqb, ltb-true, lt-ltb, leb-true, le-leb}
 use Rattle.std.proofs.lemmas.List.Sums.{length-filter, count_by-le-length}
 
 pub or_off : (b c : Bool) → c ≡ false → (b || c) ≡ b
@@ -12,6 +12,36 @@ or_off b c e = ap (λ x. b || x) e ∙ or-false b
 -- what is the same of both is the same of the one that is taken
 pub cond_same : {X Y : Type 0} (f : X → Y) (b : Bool) (x y : X) → f x ≡ f y → f (cond b x y) ≡ f y
 cond_same f b x y e = cond_both b x y (λ z. f z ≡ f y) (λ _. e) (λ _. refl)
+
+-- the test is true just where A holds
+pub record Tells (b : Bool) (A : Type 0) : Type 0 where
+  pub holds : b ≡ true → A
+  pub passes : A → b ≡ true
+
+pub both : {b c : Bool} {A B : Type 0} → Tells b A → Tells c B → Tells (b && c) (A × B)
+both {b} {c} x y = record { holds = λ e. let (p, q) = and_parts b c e in (x.holds p, y.holds q); passes = λ h. and_from b c (x.passes h.0) (y.passes h.1) }
+
+pub either : {b c : Bool} {A B : Type 0} → Tells b A → Tells c B → Tells (b || c) (A ⊎ B)
+either {b} {c} x y = record { holds = λ e. ⊎_elim (λ p. inl (x.holds p)) (λ q. inr (y.holds q)) (or_cases b c e); passes = λ h. ⊎_elim (λ p. or_left b c (x.passes p)) (λ q. or_right b c (y.passes q)) h }
+
+pub itself : (b : Bool) → Tells b (b ≡ true)
+itself b = record { holds = λ e. e; passes = λ e. e }
+
+pub opposite : {b : Bool} {A : Type 0} → Tells b A → Tells (not b) (A → ⊥)
+opposite {b} x = record { holds = λ e a. both_ways b (not-true b e) (x.passes a); passes = λ n. not_from_false b (false_from_ne_true b (λ e. n (x.holds e))) }
+
+pub equal : (a b : ℕ) → Tells (eqb a b) (a ≡ b)
+equal a b = record { holds = eqb-true a b; passes = eq-eqb a b }
+
+pub at_most : (a b : ℕ) → Tells (leb a b) (a ≤ b)
+at_most a b = record { holds = leb-true a b; passes = le-leb a b }
+
+pub less : (a b : ℕ) → Tells (ltb a b) (a < b)
+less a b = record { holds = ltb-true a b; passes = lt-ltb a b }
+
+-- the same with other words for it
+pub same_as : {b : Bool} {A B : Type 0} → Tells b A → (A → B) → (B → A) → Tells b B
+same_as x f g = record { holds = λ e. f (x.holds e); passes = λ y. x.passes (g y) }
 
 module _ {X : Type 0} (t : X → Bool) where
   pub length-kept_cons : (x : X) (xs : List X) → length (filter t (x ∷ xs)) ≡ cond (t x) 1 0 + length (filter t xs)
