@@ -26,7 +26,7 @@ use Rattle.protocol.specs.Room.{Bounded}
 use Rattle.protocol.specs.Held.{Held, Roomy}
 use Rattle.protocol.proofs.CallCases.{cases}
 use Rattle.protocol.proofs.Members.{In, in_push, in_more, in_map, none_any}
-use Rattle.protocol.proofs.Processes.{marked_keeps, from_map, to_map, from_changed, to_changed, find_without, from_without, from_push, to_push}
+use Rattle.protocol.proofs.Processes.{failed_pivot, marked_keeps, from_map, to_map, from_changed, to_changed, find_without, from_without, from_push, to_push}
 use Rattle.protocol.proofs.Sealed.{sealed}
 use Rattle.protocol.proofs.LastRecords.{none_own, NotOf, Last, LooseIs, loose_is}
 use Rattle.protocol.proofs.Rooms.{rooms_by, rooms_done, rooms_fresh, few}
@@ -47,11 +47,6 @@ found_low g n (p ∷ ps) q all e = cond_both (eqb p.start n) (Some p) (find n ps
     (λ t f. omega (arith, eqb-true p.start n t, all.0))
     (λ _ f. found_low g n ps q all.1 f)
     e
-
-failed_past : (st : Standing) → past_pivot (failed st) ≡ false → past_pivot st ≡ false
-failed_past Running e = refl
-failed_past (Withdrawing r) e = refl
-failed_past (PastPivot r) e = e
 
 led_past : (b : Bool) (st : Standing) → past_pivot (standing_after b st) ≡ false → past_pivot st ≡ false
 led_past true st e = absurd (true≢false e)
@@ -120,7 +115,7 @@ module _ {S : Type 0} where
   }
 
   owned_done : (h : Hall S) → Owned h → AllByRecursion (λ x. x.start ≤ h.given) h.processes → (p : Process) → find p.start h.processes ≡ Some p → (pivot : Bool) (a : Activity) (to : Position) (d : Option (ℕ × S)) → Owned (performed h p pivot a to d).hall
-  owned_done h o starts p is pivot a to None = owned_changed h o p is (stand (failed p.standing)) (λ q. refl) (failed_past p.standing)
+  owned_done h o starts p is pivot a to None = owned_changed h o p is (stand (failed p.standing)) (λ q. refl) (λ e. sym (failed_pivot p.standing) ∙ e)
   owned_done h o starts p is pivot a to (Some d) =
       let new = record_of p pivot a d.0 in
       let f = move (standing_after pivot p.standing) to in
