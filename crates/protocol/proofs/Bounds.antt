@@ -1,5 +1,5 @@
 -- Every call keeps numbers and tables within their bounds.
-use Rattle.std.proofs.Common.{◌≡◌, ℕ, suc, ◌<◌, ◌≤◌, Bool, true, false, not, eqb, List, [], ◌∷◌, map, Some, None, Option, sym, refl, subst, arith}
+use Rattle.std.proofs.Common.{◌≡◌, ℕ, suc, ◌<◌, ◌≤◌, Bool, true, false, not, eqb, List, map, Some, None, Option, refl, arith}
 use Rattle.std.proofs.lemmas.List.{length-map, length_push}
 use Rattle.serial.specs.Sorts.{Pairwise}
 use Rattle.serial.proofs.Lists.{all_weaker, all_map, all_kept, all_push, pairs_map, pairs_kept, pairs_push}
@@ -8,19 +8,16 @@ use Rattle.protocol.specs.declared.standing.Aim.TheVariants.{End}
 use Rattle.protocol.specs.declared.standing.Direction.TheVariants.{Forward}
 use Rattle.protocol.specs.declared.standing.Standing.TheVariants.{Running, Withdrawing, PastPivot}
 use Rattle.station.specs.Meaning.{Meaning}
-use Rattle.protocol.specs.Means.{Laws}
 use Rattle.program.specs.Positions.{Position, into, alternative_of}
 use Rattle.protocol.specs.Hall.{find, without, Process, Hall, fresh, change, changed, stand, move, with_processes, beginning, failed, standing_after}
 use Rattle.protocol.specs.StepFunction.{marked, performed}
-use Rattle.protocol.specs.Call.{Call, Event}
+use Rattle.protocol.specs.Call.{Call}
 use Rattle.protocol.specs.CallFunction.{against_open, outcome, ends, all_singles}
-use Rattle.protocol.proofs.Computed.{hall_after}
 use Rattle.protocol.specs.Room.{Bounded}
 use Rattle.protocol.proofs.Processes.{change_keeps, marked_keeps}
 use Rattle.protocol.proofs.Objections.{openable}
 use Rattle.protocol.proofs.CallCases.{cases}
 use Rattle.protocol.proofs.Counts.{without_less}
-use Rattle.protocol.proofs.Promise.{all_is}
 
 -- lists that were changed
 

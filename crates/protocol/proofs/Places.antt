@@ -1,14 +1,9 @@
 -- The same by places in tables, as code has them.
 use Rattle.std.proofs.Common.{◌≡◌, ℕ, zero, suc, ◌<◌, min, Bool, true, false, cond, not, eqb, List, [], ◌∷◌, ◌++◌, length, get_or, take, drop, set, Some, None, Option, refl, ap, ◌∙◌, arith}
-use lib.Seq.{split_at}
 use Rattle.std.specs.List.{AllByRecursion}
 use Rattle.std.proofs.lemmas.Bool.{eq-eqb, ne_eqb}
 use Rattle.serial.specs.Sorts.{Pairwise}
-use Rattle.protocol.specs.declared.record.Record.{Record}
-use Rattle.protocol.specs.Log.{last_of}
-use Rattle.protocol.specs.Hall.{Process, find, without, changed, least, lower}
-use Rattle.protocol.proofs.LastRecords.{NotOf}
-use Rattle.protocol.proofs.StepsExact.{last_here}
+use Rattle.protocol.specs.Hall.{Process, without, changed, least, lower}
 
 -- start numbers rise along the table
 abbrev pub Rising : List Process → Type 0

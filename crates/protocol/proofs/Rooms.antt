@@ -12,17 +12,15 @@ use Rattle.protocol.specs.declared.standing.Aim.TheVariants.{Restart, End}
 use Rattle.protocol.specs.declared.standing.Direction.TheVariants.{Forward}
 use Rattle.protocol.specs.declared.standing.Standing.TheVariants.{Running, Withdrawing, PastPivot}
 use Rattle.station.specs.Meaning.{Meaning}
-use Rattle.protocol.specs.Means.{Laws}
 use Rattle.program.specs.Grammar.{Body, Choices, row, or_else}
 use Rattle.program.specs.Positions.{Position, outer, inner, alternative, reached, into, alternative_of}
 use Rattle.protocol.specs.Log.{Split, own, removed, returnable, to_pivot, from_pivot, committed_under, committed_records}
 use Rattle.protocol.specs.Hall.{Process, Hall, fresh, find, without, change, changed, stand, move, with_processes, running, body_of, beginning, failed, standing_after, record_of}
 use Rattle.protocol.specs.StepFunction.{marked, performed, undone, committing}
-use Rattle.protocol.specs.Call.{Call, Event}
-use Rattle.protocol.specs.CallFunction.{loaded, opened, outcome, ends, all_singles}
+use Rattle.protocol.specs.Call.{Call}
+use Rattle.protocol.specs.CallFunction.{loaded, opened, outcome}
 use Rattle.protocol.proofs.CallCases.{cases}
 use Rattle.protocol.specs.Statements.{without_commit_number}
-use Rattle.protocol.proofs.Computed.{hall_after}
 use Rattle.protocol.proofs.Members.{In, kept_in, all_at}
 use Rattle.protocol.proofs.Processes.{marked_keeps, from_map, from_changed, from_without, from_push}
 use Rattle.protocol.proofs.Objections.{openable}
@@ -31,10 +29,6 @@ use Rattle.protocol.proofs.PivotsStay.{own_none, own_sealed, pivot_sealed, pivot
 use Rattle.protocol.proofs.Counts.{parts, size, Roomy, roomy_few, roomy_alike, NextRoom, next_room, own_pushed, own_taken, own_left, own_others, none_loose, closed_push, closed_less, closed_sealed, without_less, fewer_own, spread}
 use Rattle.protocol.specs.Held.{rest_size}
 pub use Rattle.protocol.specs.Held.{Rooms}
-use Rattle.protocol.proofs.Sound.{Sound}
-use Rattle.protocol.proofs.StandingChanges.{sound_fresh}
-use Rattle.protocol.proofs.SoundKept.{sound_outcome, sound_ends, none_left}
-use Rattle.protocol.proofs.Promise.{all_is}
 
 fits_at : (k : ℕ) (xs : List (Option Body)) → AllByRecursion (λ o. size (body_of o) ≤ 32) xs → size (body_of (get_or xs k None)) ≤ 32
 fits_at k xs all = all_at (λ o. size (body_of o) ≤ 32) None (omega arith) k xs all
