@@ -65,7 +65,7 @@ singles_append : (es more : List Event) → all_singles (es ++ more) ≡ all_sin
 singles_append [] more = refl
 singles_append (e ∷ es) more = ap (λ l. singles e ++ l) (singles_append es more) ∙ sym (append_assoc (singles e) (all_singles es) (all_singles more))
 
-module _ {S : Type 0} (M : Meaning S) (laws : Laws M) where
+module _ {S : Type 0} (M : Meaning S) where
   ends_append : (h : Hall S) (cs ds : List Call) → ends M h (cs ++ ds) ≡ ends M (ends M h cs) ds
   ends_append h [] ds = refl
   ends_append h (c ∷ cs) ds = ends_append (outcome M h c).hall cs ds
@@ -90,6 +90,7 @@ module _ {S : Type 0} (M : Meaning S) (laws : Laws M) where
   all_is h [] = refl
   all_is h (e ∷ es) = all_is (after M h e) es ∙ ap (λ g. ends M g (all_singles es)) (after_is h e) ∙ sym (ends_append h (singles e) (all_singles es))
 
+module _ {S : Type 0} (M : Meaning S) (laws : Laws M) where
   sound_after : (s : S) (es : List Event) → Sound M s (hall_after M s es)
   sound_after s es = sound_events M laws s (fresh s) (sound_fresh M s) es
 
@@ -127,7 +128,7 @@ module _ {S : Type 0} (M : Meaning S) (laws : Laws M) where
 
   pub stays : (s : S) (es more : List Event) (n : ℕ) → Fixed (history M (fresh s) es) (history M (fresh s) (es ++ more)) n
   stays s es more n =
-      let later : hall_after M s (es ++ more) ≡ ends M (hall_after M s es) (all_singles more) = all_is (fresh s) (es ++ more) ∙ ap (ends M (fresh s)) (singles_append es more) ∙ ends_append (fresh s) (all_singles es) (all_singles more) ∙ ap (λ g. ends M g (all_singles more)) (sym (all_is (fresh s) es)) in
+      let later : hall_after M s (es ++ more) ≡ ends M (hall_after M s es) (all_singles more) = all_is M (fresh s) (es ++ more) ∙ ap (ends M (fresh s)) (singles_append es more) ∙ ends_append M (fresh s) (all_singles es) (all_singles more) ∙ ap (λ g. ends M g (all_singles more)) (sym (all_is M (fresh s) es)) in
       let log = (hall_after M s es).log in
       let log' = (ends M (hall_after M s es) (all_singles more)).log in
       let goes = begins_more (map without_commit_number (to_pivot (own n log))) (map without_commit_number (to_pivot (own n log'))) (map without_commit_number (own n log')) (grows_ends M (hall_after M s es) (all_singles more) n) (begins_map without_commit_number (to_pivot (own n log')) (own n log') (pivot_begins (own n log'))) in

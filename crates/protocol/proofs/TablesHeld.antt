@@ -230,8 +230,8 @@ module _ {S : Type 0} where
   held_ends M h d (c ∷ cs) = held_ends M (outcome M h c).hall (held_outcome M h d c) cs
 
   -- so it is in every hall that the functions compute
-  pub always_held : (M : Meaning S) → Laws M → (s : S) (es : List Event) → Held (hall_after M s es)
-  always_held M laws s es = subst Held (sym (all_is M laws (fresh s) es)) (held_ends M (fresh s) (held_fresh s) (all_singles es))
+  pub always_held : (M : Meaning S) (s : S) (es : List Event) → Held (hall_after M s es)
+  always_held M s es = subst Held (sym (all_is M (fresh s) es)) (held_ends M (fresh s) (held_fresh s) (all_singles es))
 
   pub rising : (h : Hall S) → ∥ Held h ∥₁ → Pairwise (λ a b. a.start < b.start) h.processes
   rising h s = ∥∥₁_elim s (rising_prop h.processes) (λ d. d.bounded.rising)
