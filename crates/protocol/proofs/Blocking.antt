@@ -1,7 +1,7 @@
 -- The tests of the rules, and what they tell.
-use Rattle.std.proofs.Common.{◌≡◌, ℕ, ◌<◌, ◌≤◌, Bool, true, false, cond, not, ◌&&◌, ◌||◌, eqb, ltb, ◌⊎◌, List, [], ◌∷◌, map, Some, None, Option, sym, refl, ap, ◌∙◌, subst, inl, inr, ⊎_elim, arith}
+use Rattle.std.proofs.Common.{◌≡◌, ℕ, ◌<◌, ◌≤◌, Bool, true, false, cond, not, ◌&&◌, ◌⊎◌, List, [], ◌∷◌, map, Some, None, Option, sym, refl, ap, ◌∙◌, subst, inl, inr, ⊎_elim, arith}
 use Rattle.std.specs.List.{AllZip, list_any}
-use Rattle.std.proofs.lemmas.Bool.{eqb-true, eqb-false, eq-eqb, ne_eqb, true≢false, false≢true, both_ways, ltb-true, lt-ltb, or_left, or_right, or_cases, and_parts, and_from, cases_lt, not-true, not_from_false, false_from_ne_true}
+use Rattle.std.proofs.lemmas.Bool.{false≢true, both_ways, and_from, cases_lt}
 use Rattle.activity.specs.declared.Activity.{Activity}
 use Rattle.protocol.specs.declared.record.Record.{Record}
 use Rattle.protocol.specs.declared.standing.Standing.{Standing}
@@ -13,38 +13,12 @@ use Rattle.protocol.specs.Log.{owned, own, Split, from_pivot}
 use Rattle.protocol.specs.Hall.{Process, Hall, least, lower, stand, past_pivot, going_back, retreating, running}
 use Rattle.protocol.specs.StepFunction.{holds_conflict, stands_before_conflict, other, blocks_back, blocks_plain, blocks_pivot, blocks_alone, blocks_commit, everybody, nobody, pivot_marks, marked}
 use Rattle.protocol.specs.Relation.{In, Before, Retreats, Past, InConflict, BlocksBack, BlocksPlain, BlocksPivot, BlocksCommit, Nobody, Smallest, Marks}
+use Rattle.protocol.proofs.Tests.{Tells, both, either, itself, opposite, equal, less, same_as}
 use Rattle.protocol.proofs.Members.{some_any, in_any}
-
--- the test is true just where A holds
-pub record Tells (b : Bool) (A : Type 0) : Type 0 where
-  pub holds : b ≡ true → A
-  pub passes : A → b ≡ true
-
-pub both : {b c : Bool} {A B : Type 0} → Tells b A → Tells c B → Tells (b && c) (A × B)
-both {b} {c} x y = record { holds = λ e. let (p, q) = and_parts b c e in (x.holds p, y.holds q); passes = λ h. and_from b c (x.passes h.0) (y.passes h.1) }
-
-pub either : {b c : Bool} {A B : Type 0} → Tells b A → Tells c B → Tells (b || c) (A ⊎ B)
-either {b} {c} x y = record { holds = λ e. ⊎_elim (λ p. inl (x.holds p)) (λ q. inr (y.holds q)) (or_cases b c e); passes = λ h. ⊎_elim (λ p. or_left b c (x.passes p)) (λ q. or_right b c (y.passes q)) h }
-
-pub itself : (b : Bool) → Tells b (b ≡ true)
-itself b = record { holds = λ e. e; passes = λ e. e }
-
-pub opposite : {b : Bool} {A : Type 0} → Tells b A → Tells (not b) (A → ⊥)
-opposite {b} x = record { holds = λ e a. both_ways b (not-true b e) (x.passes a); passes = λ n. not_from_false b (false_from_ne_true b (λ e. n (x.holds e))) }
-
-pub equal : (a b : ℕ) → Tells (eqb a b) (a ≡ b)
-equal a b = record { holds = eqb-true a b; passes = eq-eqb a b }
-
-pub less : (a b : ℕ) → Tells (ltb a b) (a < b)
-less a b = record { holds = ltb-true a b; passes = lt-ltb a b }
 
 -- some element passes
 pub some : {X : Type 0} (t : X → Bool) (A : X → Type 0) → ((x : X) → Tells (t x) (A x)) → (xs : List X) → Tells (list_any t xs) ((x : X) × In x xs × A x)
 some t A tells xs = record { holds = λ e. let (x, i, p) = in_any t xs e in (x, i, (tells x).holds p); passes = λ (x, i, a). some_any t xs x i ((tells x).passes a) }
-
--- the same with other words for it
-pub same_as : {b : Bool} {A B : Type 0} → Tells b A → (A → B) → (B → A) → Tells b B
-same_as x f g = record { holds = λ e. f (x.holds e); passes = λ y. x.passes (g y) }
 
 retreats : (st : Standing) → Tells (retreating st) (Retreats st)
 retreats Running = record { holds = λ e. absurd (false≢true e); passes = λ e. absurd e }

@@ -1,10 +1,12 @@
 -- The book says what the hall holds.
-use Rattle.std.proofs.Common.{◌≡◌, ℕ, suc, Bool, true, false, cond, not, ◌&&◌, eqb, List, [], ◌∷◌, ◌++◌, map, Some, None, filter, Option, refl, ap, ◌∙◌, inl, inr, Ok, Err}
+use Rattle.std.proofs.Common.{◌≡◌, ℕ, suc, Bool, true, false, cond, not, ◌&&◌, eqb, List, [], ◌∷◌, ◌++◌, map, Some, None, filter, Option, sym, refl, ap, ◌∙◌, inl, inr, Ok, Err}
 use Rattle.std.specs.Option.{option_map}
-use Rattle.std.proofs.lemmas.Bool.{ne_eqb}
+use Rattle.std.proofs.lemmas.Bool.{ne_eqb, cond_both}
+use Rattle.std.proofs.lemmas.List.{map_push}
 use Rattle.std.proofs.lemmas.Option.{none-some}
 use Rattle.activity.specs.declared.Activity.{Activity}
 use Rattle.protocol.specs.declared.record.Record.{Record}
+use Rattle.protocol.specs.Answer.{Answer}
 use Rattle.protocol.specs.declared.answer.Refusal.{Refusal}
 use Rattle.protocol.specs.declared.answer.Served.TheVariants.{Stepped}
 use Rattle.protocol.specs.declared.answer.Turn.TheVariants as turns
@@ -23,6 +25,7 @@ use Rattle.protocol.specs.Call.{Call, loading, installing, opening, stepping, ca
 use Rattle.protocol.specs.CallFunction.{outcome}
 use Rattle.protocol.proofs.CallCases.{cases}
 use Rattle.protocol.specs.Book.{Entry, Book, seek, struck, moved, with_entries, keep, keep_next, on_step, noted}
+use Rattle.protocol.proofs.Tests.{cond_same, kept_map, find_mapped}
 use Rattle.protocol.proofs.LastRecords.{NotOf}
 use Rattle.protocol.proofs.Sound.{Sound}
 use Rattle.protocol.proofs.SoundKept.{none_left}
@@ -40,18 +43,10 @@ entries_same f same [] = refl
 entries_same f same (p ∷ ps) = λ i. same p i ∷ entries_same f same ps i
 
 stood : (n : ℕ) (st : Standing) (ps : List Process) → map entry_of ps ≡ map entry_of (changed n (stand st) ps)
-stood n st ps = entries_same (change n (stand st)) (λ q. go q (eqb q.start n)) ps
-  where
-    go : (q : Process) (b : Bool) → entry_of q ≡ entry_of (cond b (stand st q) q)
-    go q true = refl
-    go q false = refl
+stood n st ps = entries_same (change n (stand st)) (λ q. sym (cond_same entry_of (eqb q.start n) (stand st q) q refl)) ps
 
 told_entries : (told : Process → Bool) (ps : List Process) → map entry_of ps ≡ map entry_of (map (marked told) ps)
-told_entries told ps = entries_same (marked told) (λ q. go q (told q && running q.standing)) ps
-  where
-    go : (q : Process) (b : Bool) → entry_of q ≡ entry_of (cond b (stand (Withdrawing Restart) q) q)
-    go q true = refl
-    go q false = refl
+told_entries told ps = entries_same (marked told) (λ q. sym (cond_same entry_of (told q && running q.standing) (stand (Withdrawing Restart) q) q refl)) ps
 
 moved_is : (n : ℕ) (st : Standing) (to : Position) (ps : List Process) → moved n to (map entry_of ps) ≡ map entry_of (changed n (move st to) ps)
 moved_is n st to [] = refl
@@ -62,24 +57,15 @@ moved_is n st to (p ∷ ps) = λ i. go (eqb p.start n) i ∷ moved_is n st to ps
     go false = refl
 
 struck_is : (n : ℕ) (ps : List Process) → struck n (map entry_of ps) ≡ map entry_of (without n ps)
-struck_is n [] = refl
-struck_is n (p ∷ ps) = go (not (eqb p.start n)) (struck_is n ps)
-  where
-    go : (b : Bool) → struck n (map entry_of ps) ≡ map entry_of (without n ps) → cond b (entry_of p ∷ struck n (map entry_of ps)) (struck n (map entry_of ps)) ≡ map entry_of (cond b (p ∷ without n ps) (without n ps))
-    go true e = ap (λ l. entry_of p ∷ l) e
-    go false e = e
-
-pushed_is : (ps : List Process) (q : Process) → map entry_of ps ++ entry_of q ∷ [] ≡ map entry_of (ps ++ q ∷ [])
-pushed_is [] q = refl
-pushed_is (p ∷ ps) q = ap (λ l. entry_of p ∷ l) (pushed_is ps q)
+struck_is n = kept_map (λ q. not (eqb q.start n)) (λ e. not (eqb e.start n)) entry_of (λ q. refl)
 
 seek_is : (n : ℕ) (ps : List Process) → seek n (map entry_of ps) ≡ option_map entry_of (find n ps)
-seek_is n [] = refl
-seek_is n (p ∷ ps) = go (eqb p.start n) (seek_is n ps)
-  where
-    go : (b : Bool) → seek n (map entry_of ps) ≡ option_map entry_of (find n ps) → cond b (Some (entry_of p)) (seek n (map entry_of ps)) ≡ option_map entry_of (cond b (Some p) (find n ps))
-    go true e = refl
-    go false e = e
+seek_is n = find_mapped (λ q. eqb q.start n) (λ e. eqb e.start n) entry_of (λ q. refl)
+
+-- what is noted of no entry's step is noted of none
+pub unnoted : (b : Book) (o : Option Entry) (a : Answer) → ((e : Entry) → on_step b (Some e) a ≡ b) → on_step b o a ≡ b
+unnoted b None a silent = refl
+unnoted b (Some e) a silent = silent e
 
 -- nothing is struck where nothing is owned
 all_kept : (n : ℕ) (log : List Record) → NotOf n log → filter (λ r. not (owned n r)) log ≡ log
@@ -88,11 +74,7 @@ all_kept n (r ∷ rs) free = ap (λ b. cond (not b) (r ∷ filter (λ x. not (ow
 
 last_from_loose : (o : Option Split) (z : Split) → unless_pivot o ≡ Some z → o ≡ Some z
 last_from_loose None z e = e
-last_from_loose (Some s) z e = go s.at.pivot e
-  where
-    go : (b : Bool) → cond b None (Some s) ≡ Some z → Some s ≡ Some z
-    go true f = absurd (none-some _ f)
-    go false f = f
+last_from_loose (Some s) z e = cond_both s.at.pivot None (Some s) (λ o. o ≡ Some z → Some s ≡ Some z) (λ _ f. absurd (none-some _ f)) (λ _ f. f) e
 
 module _ {S : Type 0} (M : Meaning S) (laws : Laws M) (s : S) where
   abbrev Noted : Hall S → Call → Outcome S → Type 0
@@ -116,7 +98,7 @@ module _ {S : Type 0} (M : Meaning S) (laws : Laws M) (s : S) where
     waited = λ p is told n. on_its h p is (answered (with_processes h (map (marked told) h.processes)) (Ok (Stepped (turns.Wait n)))) (ap (with_entries (view h)) (told_entries told h.processes));
     loads = λ k b w e. refl;
     installs = λ k t b w e. refl;
-    opens = λ k e. ap (with_entries (view h)) (pushed_is h.processes record { start = suc h.given; place = k; standing = Running; at = beginning h.programs k });
+    opens = λ k e. ap (with_entries (view h)) (sym (map_push entry_of h.processes record { start = suc h.given; place = k; standing = Running; at = beginning h.programs k }));
     cancels = λ p is e. ap (with_entries (view h)) (stood p.start (Withdrawing End) h.processes);
     steps = λ p is g a to n free o e. on_its h p is (performed h p false a to o) (noted_performed h p false a to (λ x. ap (keep_next (view h) p.start x) n) o);
     crosses = λ p is g a to n alone free o e. on_its h p is (performed h p true a to o) (noted_performed h p true a to (λ x. ap (keep_next (view h) p.start x) n) o);
@@ -131,9 +113,5 @@ module _ {S : Type 0} (M : Meaning S) (laws : Laws M) (s : S) where
       refused (loading k b w) r = refl
       refused (installing k t b o w) r = refl
       refused (opening k) r = refl
-      refused (stepping n) r = go (seek n (map entry_of h.processes))
-        where
-          go : (o : Option Entry) → on_step (view h) o (Err r) ≡ view h
-          go None = refl
-          go (Some e) = refl
+      refused (stepping n) r = unnoted (view h) (seek n (map entry_of h.processes)) (Err r) (λ e. refl)
       refused (cancelling n) r = refl

@@ -1,32 +1,23 @@
 -- Every call keeps numbers and tables within their bounds.
-use Rattle.std.proofs.Common.{◌≡◌, ℕ, suc, ◌+◌, ◌*◌, ◌<◌, ◌≤◌, Bool, true, false, cond, not, ◌&&◌, eqb, ltb, leb, List, [], ◌∷◌, ◌++◌, map, length, get_or, is_some, Some, None, filter, Option, sym, refl, subst, arith}
-use Rattle.std.specs.List.{AllByRecursion}
-use Rattle.std.proofs.lemmas.Bool.{leb-false}
+use Rattle.std.proofs.Common.{◌≡◌, ℕ, suc, ◌<◌, ◌≤◌, Bool, true, false, not, eqb, List, map, Some, None, Option, refl, arith}
 use Rattle.std.proofs.lemmas.List.{length-map, length_push}
 use Rattle.serial.specs.Sorts.{Pairwise}
 use Rattle.serial.proofs.Lists.{all_weaker, all_map, all_kept, all_push, pairs_map, pairs_kept, pairs_push}
-use Rattle.std.specs.Bool.{then_some}
-use Rattle.std.specs.Option.{option_or}
 use Rattle.activity.specs.declared.Activity.{Activity}
-use Rattle.protocol.specs.declared.answer.Refusal.TheVariants.{NoPlace, NotLoaded, Full, NoNumber, NoRoom}
-use Rattle.protocol.specs.declared.standing.Aim.TheVariants.{Restart, End}
+use Rattle.protocol.specs.declared.standing.Aim.TheVariants.{End}
 use Rattle.protocol.specs.declared.standing.Direction.TheVariants.{Forward}
 use Rattle.protocol.specs.declared.standing.Standing.TheVariants.{Running, Withdrawing, PastPivot}
 use Rattle.station.specs.Meaning.{Meaning}
-use Rattle.protocol.specs.Means.{Laws}
 use Rattle.program.specs.Positions.{Position, into, alternative_of}
-use Rattle.protocol.specs.Hall.{Process, Hall, fresh, change, changed, stand, move, with_processes, running, beginning, failed, standing_after}
+use Rattle.protocol.specs.Hall.{find, without, Process, Hall, fresh, change, changed, stand, move, with_processes, beginning, failed, standing_after}
 use Rattle.protocol.specs.StepFunction.{marked, performed}
-use Rattle.protocol.specs.Call.{Call, Event}
+use Rattle.protocol.specs.Call.{Call}
 use Rattle.protocol.specs.CallFunction.{against_open, outcome, ends, all_singles}
-use Rattle.protocol.specs.Log.{committed_records}
-use Rattle.protocol.proofs.Computed.{hall_after}
 use Rattle.protocol.specs.Room.{Bounded}
 use Rattle.protocol.proofs.Processes.{change_keeps, marked_keeps}
 use Rattle.protocol.proofs.Objections.{openable}
 use Rattle.protocol.proofs.CallCases.{cases}
 use Rattle.protocol.proofs.Counts.{without_less}
-use Rattle.protocol.proofs.Promise.{all_is}
 
 -- lists that were changed
 
@@ -46,6 +37,20 @@ module _ {S : Type 0} where
   bounded_changed : (h : Hall S) → Bounded h → (n : ℕ) (f : Process → Process) → ((q : Process) → (f q).start ≡ q.start) → Bounded (with_processes h (changed n f h.processes))
   bounded_changed h b n f keeps = bounded_map h b (change n f) (change_keeps n f keeps)
 
+  bounded_gone : (h : Hall S) → Bounded h → (p : Process) → find p.start h.processes ≡ Some p → Bounded (with_processes h (without p.start h.processes))
+  bounded_gone h b p is =
+      let less = without_less p.start h.processes p is in
+      record {
+        given = b.given;
+        active = omega (arith, less, b.active);
+        committed = omega (arith, less, b.committed);
+        rising = pairs_kept (λ a b. a.start < b.start) (λ q. not (eqb q.start p.start)) h.processes b.rising;
+        starts = all_kept (λ q. q.start ≤ h.given) (λ q. not (eqb q.start p.start)) h.processes b.starts;
+      }
+
+  pub bounded_fresh : (s : S) → Bounded (fresh s)
+  bounded_fresh s = record { given = omega arith; active = omega arith; committed = omega arith; rising = tt; starts = tt }
+
   -- what stands in the log and at the station does not count
   bounded_done : (h : Hall S) → Bounded h → (p : Process) (pivot : Bool) (a : Activity) (to : Position) (o : Option (ℕ × S)) → Bounded (performed h p pivot a to o).hall
   bounded_done h b p pivot a to None = bounded_changed h b p.start (stand (failed p.standing)) (λ q. refl)
@@ -63,10 +68,10 @@ module _ {S : Type 0} where
     cancels = λ p is e. bounded_changed h b p.start (stand (Withdrawing End)) (λ q. refl);
     steps = λ p is g a to n free o e. bounded_done h b p false a to o;
     crosses = λ p is g a to n alone free o e. bounded_done h b p true a to o;
-    commits = λ p is g n free. let less = without_less p.start h.processes p is in record { given = b.given; active = omega (arith, less, b.active); committed = omega (arith, less, b.committed); rising = pairs_kept (λ a b. a.start < b.start) (λ q. not (eqb q.start p.start)) h.processes b.rising; starts = all_kept (λ q. q.start ≤ h.given) (λ q. not (eqb q.start p.start)) h.processes b.starts };
+    commits = λ p is g n free. let c = bounded_gone h b p is in record { given = c.given; active = c.active; committed = omega (arith, without_less p.start h.processes p is, b.committed); rising = c.rising; starts = c.starts };
     takes_back = λ p is x z l free. record { given = b.given; active = b.active; committed = b.committed; rising = b.rising; starts = b.starts };
     restarts = λ p is e none. bounded_changed h b p.start (move Running (beginning h.programs p.place)) (λ q. refl);
-    leaves = λ p is e none. let less = without_less p.start h.processes p is in record { given = b.given; active = omega (arith, less, b.active); committed = omega (arith, less, b.committed); rising = pairs_kept (λ a b. a.start < b.start) (λ q. not (eqb q.start p.start)) h.processes b.rising; starts = all_kept (λ q. q.start ≤ h.given) (λ q. not (eqb q.start p.start)) h.processes b.starts };
+    leaves = λ p is e none. bounded_gone h b p is;
     turns = λ p is e none. bounded_changed h b p.start (move (PastPivot Forward) (into (suc (alternative_of p.at)) p.at)) (λ q. refl);
   }
     where
@@ -81,10 +86,3 @@ module _ {S : Type 0} where
             rising = pairs_push (λ a b. a.start < b.start) h.processes record { start = suc h.given; place = k; standing = Running; at = beginning h.programs k } b.rising (all_weaker (λ q. q.start ≤ h.given) (λ q. q.start < suc h.given) (λ q x. omega arith) h.processes b.starts);
             starts = all_push (λ q. q.start ≤ suc h.given) h.processes record { start = suc h.given; place = k; standing = Running; at = beginning h.programs k } (all_weaker (λ q. q.start ≤ h.given) (λ q. q.start ≤ suc h.given) (λ q x. omega arith) h.processes b.starts) (omega arith);
           }
-
-  bounded_ends : (M : Meaning S) (h : Hall S) → Bounded h → (cs : List Call) → Bounded (ends M h cs)
-  bounded_ends M h b [] = b
-  bounded_ends M h b (c ∷ cs) = bounded_ends M (outcome M h c).hall (bounded_outcome M h b c) cs
-
-pub stays_bounded : {S : Type 0} (M : Meaning S) → Laws M → (s : S) (es : List Event) → Bounded (hall_after M s es)
-stays_bounded M laws s es = subst Bounded (sym (all_is M laws (fresh s) es)) (bounded_ends M (fresh s) record { given = omega arith; active = omega arith; committed = omega arith; rising = tt; starts = tt } (all_singles es))

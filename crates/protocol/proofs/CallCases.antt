@@ -36,6 +36,15 @@ module _ {S : Type 0} (M : Meaning S) (h : Hall S) where
   abbrev pub Passes : (Process → Bool) → Type 0
   Passes blocks = (n : ℕ) (q : Process) → find n h.processes ≡ Some q → blocks q ≡ false
 
+  -- by whether somebody blocks
+  pub by_blockers : (Q : Outcome S → Type 0) (blocks marks : Process → Bool) (on : Outcome S) → (least blocks h.processes ≡ None → Q on)
+      → ((n : ℕ) → least blocks h.processes ≡ Some n → Q (answered (with_processes h (map (marked (λ q. blocks q && marks q)) h.processes)) (Ok (Stepped (Wait n))))) → Q (unless_blocked h blocks marks on)
+  by_blockers Q blocks marks on free wait = go (least blocks h.processes) refl
+    where
+      go : (o : Option ℕ) → least blocks h.processes ≡ o → Q (waits h blocks marks on o)
+      go None e = free e
+      go (Some n) e = wait n e
+
   pub record Leaves (P : Call → Outcome S → Type 0) : Type 0 where
     pub refused : (c : Call) (r : Refusal) → P c (answered h (Err r))
     pub waited : (p : Process) → Here p → (told : Process → Bool) (n : ℕ) → P (stepping p.start) (answered (with_processes h (map (marked told) h.processes)) (Ok (Stepped (Wait n))))
@@ -57,11 +66,7 @@ module _ {S : Type 0} (M : Meaning S) (h : Hall S) where
       Q o = P (stepping p.start) o
 
       unless : (blocks marks : Process → Bool) (on : Outcome S) → (Passes blocks → Q on) → Q (unless_blocked h blocks marks on)
-      unless blocks marks on free = go (least blocks h.processes) refl
-        where
-          go : (o : Option ℕ) → least blocks h.processes ≡ o → Q (waits h blocks marks on o)
-          go None e = free (nobody_passes blocks h.processes e)
-          go (Some n) e = all.waited p is (λ q. blocks q && marks q) n
+      unless blocks marks on free = by_blockers Q blocks marks on (λ e. free (nobody_passes blocks h.processes e)) (λ n e. all.waited p is (λ q. blocks q && marks q) n)
 
       ahead : Going p → (x : Next) → next p.at ≡ x → Q (forward M h p x)
       ahead g nothing e = unless (blocks_commit M.conflict h.log p) nobody (committing h p) (all.commits p is g e)
@@ -86,30 +91,23 @@ module _ {S : Type 0} (M : Meaning S) (h : Hall S) where
       cancelled_by (Withdrawing aim) e = all.refused (cancelling p.start) IsWithdrawing
       cancelled_by (PastPivot way) e = all.refused (cancelling p.start) IsPastPivot
 
+    -- by whether something speaks against it
+    unrefused : (c : Call) (o : Option Refusal) (on : Outcome S) → (o ≡ None → P c on) → P c (refused_or h o on)
+    unrefused c None on free = free refl
+    unrefused c (Some r) on free = all.refused c r
+
+    -- by the process of a number
+    by_process : (c : ℕ → Call) (comes : Option Process → Outcome S) (n : ℕ) → P (c n) (comes None) → ((p : Process) → Here p → P (c p.start) (comes (Some p))) → P (c n) (comes (find n h.processes))
+    by_process c comes n nobody found = go (find n h.processes) refl
+      where
+        go : (o : Option Process) → find n h.processes ≡ o → P (c n) (comes o)
+        go None e = nobody
+        go (Some p) e = let same = found_start n h.processes p e in subst (λ k. P (c k) (comes (Some p))) same (found p (ap (λ k. find k h.processes) same ∙ e))
+
     pub cases : (c : Call) → P c (outcome M h c)
-    cases (loading k b w) = go (against_load M h k b) refl
-      where
-        go : (o : Option Refusal) → against_load M h k b ≡ o → P (loading k b w) (refused_or h o (loaded h k b))
-        go None e = all.loads k b w e
-        go (Some r) e = all.refused (loading k b w) r
-    cases (installing k t b None w) = go (against_load M h k b) refl
-      where
-        go : (o : Option Refusal) → against_load M h k b ≡ o → P (installing k t b None w) (refused_or h o (loaded h k b))
-        go None e = all.installs k t b w e
-        go (Some r) e = all.refused (installing k t b None w) r
+    cases (loading k b w) = unrefused (loading k b w) (against_load M h k b) (loaded h k b) (all.loads k b w)
+    cases (installing k t b None w) = unrefused (installing k t b None w) (against_load M h k b) (loaded h k b) (all.installs k t b w)
     cases (installing k t b (Some e) w) = all.refused (installing k t b (Some e) w) (BadText e)
-    cases (opening k) = go (against_open h k) refl
-      where
-        go : (o : Option Refusal) → against_open h k ≡ o → P (opening k) (refused_or h o (opened h k))
-        go None e = all.opens k e
-        go (Some r) e = all.refused (opening k) r
-    cases (stepping n) = go (find n h.processes) refl
-      where
-        go : (o : Option Process) → find n h.processes ≡ o → P (stepping n) (step_of M h o)
-        go None e = all.refused (stepping n) NoProcess
-        go (Some p) e = subst (λ k. P (stepping k) (step_of M h (Some p))) (found_start n h.processes p e) (by p (ap (λ k. find k h.processes) (found_start n h.processes p e) ∙ e) p.standing refl)
-    cases (cancelling n) = go (find n h.processes) refl
-      where
-        go : (o : Option Process) → find n h.processes ≡ o → P (cancelling n) (cancel_of h o)
-        go None e = all.refused (cancelling n) NoProcess
-        go (Some p) e = subst (λ k. P (cancelling k) (cancel_of h (Some p))) (found_start n h.processes p e) (cancelled_by p (ap (λ k. find k h.processes) (found_start n h.processes p e) ∙ e) p.standing refl)
+    cases (opening k) = unrefused (opening k) (against_open h k) (opened h k) (all.opens k)
+    cases (stepping n) = by_process stepping (step_of M h) n (all.refused (stepping n) NoProcess) (λ p is. by p is p.standing refl)
+    cases (cancelling n) = by_process cancelling (cancel_of h) n (all.refused (cancelling n) NoProcess) (λ p is. cancelled_by p is p.standing refl)

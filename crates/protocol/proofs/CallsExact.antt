@@ -1,5 +1,5 @@
 -- Each call comes to exactly one thing: what the function gives is what the relation allows.
-use Rattle.std.proofs.Common.{◌≡◌, ℕ, suc, Bool, true, false, cond, not, eqb, ltb, leb, List, [], ◌∷◌, length, get_or, is_some, Some, None, Option, sym, refl, ap, ◌∙◌, subst, inl, inr, arith}
+use Rattle.std.proofs.Common.{◌≡◌, ℕ, suc, Bool, true, false, cond, not, eqb, ltb, leb, List, [], ◌∷◌, length, get_or, is_some, Some, None, Option, sym, refl, ap, ◌∙◌, subst, arith}
 use Rattle.std.specs.List.{AllByRecursion, list_any}
 use Rattle.std.proofs.lemmas.Bool.{false≢true, false_from_ne_true, both_ways, not-true, not_from_false, ltb-true, ltb-false, leb-true, leb-false, lt-ltb, le-ltb, le-leb, lt-leb, eqb-true, eq-eqb}
 use Rattle.std.proofs.lemmas.Option.{none-some, same_Some}
@@ -18,7 +18,6 @@ use Rattle.std.specs.Bool.{then_some}
 use Rattle.std.specs.Option.{option_or}
 use Rattle.protocol.specs.Hall.{Process, Hall, find, Outcome, answered}
 use Rattle.protocol.specs.StepFunction.{step_of}
-use Rattle.protocol.specs.Relation.{In}
 use Rattle.protocol.specs.Call.{Call, IsProgram, loading, installing, opening, stepping, cancelling}
 use Rattle.protocol.specs.CallFunction.{fits, fault, faults, refused_or, loaded, opened, cancel_by, cancel_of, outcome, Scan, one, scanned}
 use Rattle.protocol.specs.Letters.{call_of, written}

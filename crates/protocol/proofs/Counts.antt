@@ -1,9 +1,10 @@
 -- How many records there are.
-use Rattle.std.proofs.Common.{◌≡◌, ℕ, zero, suc, ◌+◌, ◌*◌, ◌≤◌, Bool, true, false, cond, not, ◌||◌, eqb, List, [], ◌∷◌, ◌++◌, map, length, Some, None, filter, Option, sym, refl, ap, ◌∙◌, subst, inl, inr, arith, length-append}
+use Rattle.std.proofs.Common.{◌≡◌, ℕ, zero, suc, ◌+◌, ◌*◌, ◌≤◌, Bool, true, false, cond, not, ◌||◌, eqb, List, [], ◌∷◌, ◌++◌, map, length, Some, None, filter, Option, sym, refl, ap, ◌∙◌, inl, arith, length-append}
 use Rattle.std.specs.List.{list_any}
-use Rattle.std.proofs.lemmas.Bool.{or_right, eqb-true, eqb-false, eq-eqb, ne_eqb, true≢false, false≢true, or_parts, cases_Bool}
+use Rattle.std.proofs.lemmas.Bool.{cond_both, or_right, eqb-true, eqb-false, eq-eqb, ne_eqb, true≢false, false≢true, or_parts, cases_Bool}
 use Rattle.std.proofs.lemmas.Option.{none-some}
 use Rattle.std.proofs.lemmas.List.{length_push}
+use Rattle.std.proofs.lemmas.List.Filters.{length-filter_both}
 use Rattle.std.proofs.lemmas.List.Elements.{filter-append}
 use Rattle.activity.specs.declared.Activity.{Activity}
 use Rattle.protocol.specs.declared.record.Record.{Record}
@@ -13,7 +14,8 @@ use Rattle.protocol.specs.Ahead.{Next, nothing, plain, crossing, next}
 use Rattle.protocol.specs.Log.{Split, owned, own, removed, last_of, unless_pivot, returnable, to_pivot, from_pivot, committed_under, committed_records}
 use Rattle.protocol.specs.Hall.{Process, find, without}
 pub use Rattle.protocol.specs.Held.{size, choice_size, rest_size, Roomy}
-use Rattle.protocol.proofs.Members.{In, some_any, in_here}
+use Rattle.protocol.proofs.Tests.{length-kept_cons, length-kept_le}
+use Rattle.protocol.proofs.Members.{In, kept_in, some_any, in_here}
 use Rattle.protocol.proofs.LastRecords.{Last, LastIs, last_is}
 use Rattle.protocol.proofs.PivotsStay.{pivot_plain, own_none}
 
@@ -110,14 +112,13 @@ none_loose n log e = go (last_of n log) (last_is n log) e
   where
     go : (o : Option Split) → LastIs n log o → unless_pivot o ≡ None → length (from_pivot (own n log)) ≡ 0
     go None was f = ap (λ l. length (from_pivot l)) (own_none n log was)
-    go (Some z) was f = by z.at.pivot refl f
+    go (Some z) was f = cond_both z.at.pivot None (Some z) (λ o. o ≡ None → length (from_pivot (own n log)) ≡ 0)
+        (λ p _. ap (λ l. length (from_pivot l)) (own_taken n log z was) ∙ last_zero p)
+        (λ _ g. absurd (none-some _ (sym g)))
+        f
       where
-        by : (b : Bool) → z.at.pivot ≡ b → cond b None (Some z) ≡ None → length (from_pivot (own n log)) ≡ 0
-        by true p g = ap (λ l. length (from_pivot l)) (own_taken n log z was) ∙ last_zero
-          where
-            last_zero : length (from_pivot (own n z.before ++ z.at ∷ [])) ≡ 0
-            last_zero = omega (arith, parts (own n z.before ++ z.at ∷ []), ap length (to_last (own n z.before) z.at p))
-        by false p g = absurd (none-some _ (sym g))
+        last_zero : z.at.pivot ≡ true → length (from_pivot (own n z.before ++ z.at ∷ [])) ≡ 0
+        last_zero p = omega (arith, parts (own n z.before ++ z.at ∷ []), ap length (to_last (own n z.before) z.at p))
 
 -- committed records
 
@@ -125,45 +126,23 @@ pub closed_push : (log : List Record) (r : Record) → r.commit ≡ 0 → length
 closed_push log r e = ap length (filter-append (λ x. not (eqb x.commit 0)) log (r ∷ [])) ∙ ap (λ b. length (committed_records log ++ cond (not b) (r ∷ []) [])) (eq-eqb r.commit 0 e) ∙ ap length (mathlib.Core.List.append-nil (committed_records log))
 
 pub closed_less : (xs : List Record) (r : Record) (ys : List Record) → length (committed_records (xs ++ ys)) ≤ length (committed_records (xs ++ r ∷ ys))
-closed_less [] r ys = go (not (eqb r.commit 0))
-  where
-    go : (b : Bool) → length (committed_records ys) ≤ length (cond b (r ∷ committed_records ys) (committed_records ys))
-    go true = omega arith
-    go false = omega arith
-closed_less (x ∷ xs) r ys = go (not (eqb x.commit 0)) (closed_less xs r ys)
-  where
-    go : (b : Bool) → length (committed_records (xs ++ ys)) ≤ length (committed_records (xs ++ r ∷ ys)) → length (cond b (x ∷ committed_records (xs ++ ys)) (committed_records (xs ++ ys))) ≤ length (cond b (x ∷ committed_records (xs ++ r ∷ ys)) (committed_records (xs ++ r ∷ ys)))
-    go true h = omega arith
-    go false h = h
+closed_less [] r ys = omega (arith, length-kept_cons (λ x. not (eqb x.commit 0)) r ys)
+closed_less (x ∷ xs) r ys = omega (arith, length-kept_cons (λ x. not (eqb x.commit 0)) x (xs ++ ys), length-kept_cons (λ x. not (eqb x.commit 0)) x (xs ++ r ∷ ys), closed_less xs r ys)
 
 pub closed_sealed : (n c : ℕ) (log : List Record) → length (committed_records (map (committed_under n c) log)) ≤ length (committed_records log) + length (own n log)
 closed_sealed n c [] = omega arith
-closed_sealed n c (r ∷ rs) = go (owned n r) (closed_sealed n c rs)
-  where
-    one : (x : Record) → length (cond (not (eqb x.commit 0)) (x ∷ committed_records (map (committed_under n c) rs)) (committed_records (map (committed_under n c) rs))) ≤ suc (length (committed_records (map (committed_under n c) rs)))
-    one x = by (not (eqb x.commit 0))
-      where
-        by : (b : Bool) → length (cond b (x ∷ committed_records (map (committed_under n c) rs)) (committed_records (map (committed_under n c) rs))) ≤ suc (length (committed_records (map (committed_under n c) rs)))
-        by true = omega arith
-        by false = omega arith
-
-    at_least : length (committed_records rs) ≤ length (committed_records (r ∷ rs))
-    at_least = by (not (eqb r.commit 0))
-      where
-        by : (b : Bool) → length (committed_records rs) ≤ length (cond b (r ∷ committed_records rs) (committed_records rs))
-        by true = omega arith
-        by false = omega arith
-
-    sealed_r : Record
-    sealed_r = record { start = r.start; activity = r.activity; answer = r.answer; commit = c; pivot = r.pivot }
-
-    same : (b : Bool) → length (committed_records (map (committed_under n c) rs)) ≤ length (committed_records rs) + length (own n rs) → length (cond b (r ∷ committed_records (map (committed_under n c) rs)) (committed_records (map (committed_under n c) rs))) ≤ length (cond b (r ∷ committed_records rs) (committed_records rs)) + length (own n rs)
-    same true h = omega arith
-    same false h = h
-
-    go : (b : Bool) → length (committed_records (map (committed_under n c) rs)) ≤ length (committed_records rs) + length (own n rs) → length (committed_records (cond b sealed_r r ∷ map (committed_under n c) rs)) ≤ length (committed_records (r ∷ rs)) + length (cond b (r ∷ own n rs) (own n rs))
-    go true h = omega (arith, one sealed_r, at_least, h)
-    go false h = same (not (eqb r.commit 0)) h
+closed_sealed n c (r ∷ rs) =
+    let closed : Record → Bool = λ x. not (eqb x.commit 0) in
+    let now = map (committed_under n c) rs in
+    let own_one = length-kept_cons (owned n) r rs in
+    let old_one = length-kept_cons closed r rs in
+    let rest = closed_sealed n c rs in
+    cond_both (owned n r) record { start = r.start; activity = r.activity; answer = r.answer; commit = c; pivot = r.pivot } r (λ x. length (committed_records (x ∷ now)) ≤ length (committed_records (r ∷ rs)) + length (own n (r ∷ rs)))
+    (λ mine.
+    let s : Record = record { start = r.start; activity = r.activity; answer = r.answer; commit = c; pivot = r.pivot } in
+    let one : cond (not (eqb c 0)) 1 0 ≤ 1 = cond_both (not (eqb c 0)) 1 0 (λ k. k ≤ 1) (λ _. omega arith) (λ _. omega arith) in
+    omega (arith, length-kept_cons closed s now, ap {B = ℕ} (λ b. cond b 1 0) mine))
+    (λ _. omega (arith, length-kept_cons closed r now))
 
 -- processes
 
@@ -171,45 +150,17 @@ pub without_less : (n : ℕ) (ps : List Process) (p : Process) → find n ps ≡
 without_less n [] p e = absurd (none-some _ e)
 without_less n (q ∷ qs) p e = go (eqb q.start n) e (without_less n qs p)
   where
-    at_most : (xs : List Process) → length (without n xs) ≤ length xs
-    at_most [] = omega arith
-    at_most (x ∷ xs) = by (not (eqb x.start n)) (at_most xs)
-      where
-        by : (b : Bool) → length (without n xs) ≤ length xs → length (cond b (x ∷ without n xs) (without n xs)) ≤ suc (length xs)
-        by true h = omega arith
-        by false h = omega arith
-
     go : (b : Bool) → cond b (Some q) (find n qs) ≡ Some p → (find n qs ≡ Some p → suc (length (without n qs)) ≤ length qs) → suc (length (cond (not b) (q ∷ without n qs) (without n qs))) ≤ suc (length qs)
-    go true f again = omega (arith, at_most qs)
+    go true f again = omega (arith, length-kept_le (λ x. not (eqb x.start n)) qs)
     go false f again = omega (arith, again f)
 
 -- records that have an owner each, and each owner at most 32
-split_own : (n : ℕ) (xs : List Record) → length xs ≡ length (own n xs) + length (filter (λ r. not (owned n r)) xs)
-split_own n [] = refl
-split_own n (x ∷ xs) = go (owned n x) (split_own n xs)
-  where
-    go : (b : Bool) → length xs ≡ length (own n xs) + length (filter (λ r. not (owned n r)) xs) → suc (length xs) ≡ length (cond b (x ∷ own n xs) (own n xs)) + length (cond (not b) (x ∷ filter (λ r. not (owned n r)) xs) (filter (λ r. not (owned n r)) xs))
-    go true h = omega arith
-    go false h = omega arith
-
-pub kept_in : {X : Type 0} (t : X → Bool) (xs : List X) (x : X) → In x (filter t xs) → In x xs × (t x ≡ true)
-kept_in t [] x i = elim i [ ]
-kept_in {X} t (y ∷ ys) x i = go (t y) refl i (kept_in t ys x)
-  where
-    go : (b : Bool) → t y ≡ b → In x (cond b (y ∷ filter t ys) (filter t ys)) → (In x (filter t ys) → In x ys × (t x ≡ true)) → In x (y ∷ ys) × (t x ≡ true)
-    go true e (inl f) again = (inl f, ap t f ∙ e)
-    go true e (inr j) again = let (a, b) = again j in (inr a, b)
-    go false e j again = let (a, b) = again j in (inr a, b)
-
 pub fewer_own : (n : ℕ) (t : Record → Bool) (xs : List Record) → length (own n (filter t xs)) ≤ length (own n xs)
 fewer_own n t [] = omega arith
-fewer_own n t (x ∷ xs) = go (t x) (owned n x) refl (fewer_own n t xs)
-  where
-    go : (b c : Bool) → owned n x ≡ c → length (own n (filter t xs)) ≤ length (own n xs) → length (own n (cond b (x ∷ filter t xs) (filter t xs))) ≤ length (cond c (x ∷ own n xs) (own n xs))
-    go true true e h = subst (λ d. length (cond d (x ∷ own n (filter t xs)) (own n (filter t xs))) ≤ suc (length (own n xs))) (sym e) (omega arith)
-    go true false e h = subst (λ d. length (cond d (x ∷ own n (filter t xs)) (own n (filter t xs))) ≤ length (own n xs)) (sym e) h
-    go false true e h = omega arith
-    go false false e h = h
+fewer_own n t (x ∷ xs) =
+    let here = length-kept_cons (owned n) x xs in
+    let rest = fewer_own n t xs in
+    cond_both (t x) (x ∷ filter t xs) (filter t xs) (λ l. length (own n l) ≤ length (own n (x ∷ xs))) (λ _. omega (arith, length-kept_cons (owned n) x (filter t xs))) (λ _. omega arith)
 
 pub spread : (ps : List Process) (xs : List Record) → ((r : Record) → In r xs → (q : Process) × (find r.start ps ≡ Some q)) → ((n : ℕ) → length (own n xs) ≤ 32) → length xs ≤ 32 * length ps
 spread [] [] own-ed few = omega arith
@@ -217,7 +168,7 @@ spread [] (x ∷ xs) own-ed few = absurd (none-some _ (own-ed x (inl refl)).1)
 spread (p ∷ ps) xs own-ed few =
     let rest = filter (λ r. not (owned p.start r)) xs in
     let h : length rest ≤ 32 * length ps = spread ps rest (λ r i. later r i) (λ n. omega (arith, fewer_own n (λ r. not (owned p.start r)) xs, few n)) in
-    omega (arith, split_own p.start xs, few p.start, h)
+    omega (arith, length-filter_both (owned p.start) (λ r. not (owned p.start r)) (λ r. refl) xs, few p.start, h)
   where
     later : (r : Record) → In r (filter (λ r. not (owned p.start r)) xs) → (q : Process) × (find r.start ps ≡ Some q)
     later r i =

@@ -13,8 +13,7 @@ use Rattle.protocol.specs.Room.{HasRoom, Bounded, StaysBounded}
 use Rattle.protocol.proofs.Computed.{tells, history}
 use Rattle.protocol.proofs.CallsExact.{calls_exactly, scans_exactly, served}
 use Rattle.protocol.proofs.Promise as promise
-use Rattle.protocol.proofs.Rooms as rooms
-use Rattle.protocol.proofs.Bounds as bounds
+use Rattle.protocol.proofs.TablesHeld.{always_held, held_few}
 
 module _ {S : Type 0} (M : Meaning S) where
   told_is : (h : Hall S) (rs : List Request) → scan_told (scan_outcome M h rs).records (scan_outcome M h rs).refusal ≡ tells M h (scan rs)
@@ -48,6 +47,12 @@ module _ {S : Type 0} (M : Meaning S) where
   pub runs_exactly : RunsExactly M
   runs_exactly h es = record { told = history M h es; end = after_all M h es; run = computed_runs h es; only = only_computed h es }
 
+  pub has_room : HasRoom M
+  has_room s es ts h r = subst (λ g. length g.log ≤ 1024) (sym (only_computed (fresh s) es ts h r).1) (held_few _ (always_held M s es))
+
+  pub stays_bounded : StaysBounded M
+  stays_bounded s es ts h r = subst Bounded (sym (only_computed (fresh s) es ts h r).1) (always_held M s es).bounded
+
   history_append : (h : Hall S) (es more : List Event) → history M h es ++ history M (after_all M h es) more ≡ history M h (es ++ more)
   history_append h [] more = refl
   history_append h (e ∷ es) more = ap (λ l. tells M h e ∷ l) (history_append (after M h e) es more)
@@ -64,9 +69,3 @@ module _ {S : Type 0} (M : Meaning S) where
         let (later, last) = only_computed h more us g q in
         let all : ts ++ us ≡ history M (fresh s) (es ++ more) = (λ j. told j ++ later j) ∙ ap (λ k. history M (fresh s) es ++ history M k more) end ∙ history_append (fresh s) es more in
         subst (λ l. Fixed l (ts ++ us) n) (sym told) (subst (λ l. Fixed (history M (fresh s) es) l n) (sym all) (promise.stays M laws s es more n))
-
-    pub has_room : HasRoom M
-    has_room s es ts h r = subst (λ g. length g.log ≤ 1024) (sym (only_computed (fresh s) es ts h r).1) (rooms.has_room M laws s es)
-
-    pub stays_bounded : StaysBounded M
-    stays_bounded s es ts h r = subst Bounded (sym (only_computed (fresh s) es ts h r).1) (bounds.stays_bounded M laws s es)

@@ -18,17 +18,12 @@ use Rattle.protocol.specs.StepFunction.{step_of}
 use Rattle.protocol.specs.Call.{Call, opening, stepping, cancelling, Event, call, scan}
 use Rattle.protocol.specs.CallFunction.{refused_or, against_open, opened, cancel_by, cancel_of, outcome, one, scanned, after, after_all}
 use Rattle.protocol.specs.Letters.{call_of, written}
-use Rattle.protocol.specs.Book.{Entry, Book, seek, on_step, noted, answer_told, noted_if, noted_record, noted_records, scan_served, scan_refused, heard, book_of}
+use Rattle.protocol.specs.Book.{Book, seek, noted, answer_told, noted_if, noted_record, noted_records, scan_served, scan_refused, heard, book_of}
 use Rattle.protocol.proofs.Computed.{tells, history}
 use Rattle.protocol.proofs.Sound.{Sound}
 use Rattle.protocol.proofs.SoundKept.{sound_outcome}
-use Rattle.protocol.proofs.Books.{view, noted_is}
+use Rattle.protocol.proofs.Books.{view, unnoted, noted_is}
 use Rattle.protocol.proofs.StepsExact.{exact}
-
--- what is noted of no entry's step is noted of none
-unnoted : (b : Book) (o : Option Entry) (a : Answer) → ((e : Entry) → on_step b (Some e) a ≡ b) → on_step b o a ≡ b
-unnoted b None a silent = refl
-unnoted b (Some e) a silent = silent e
 
 -- a call that a scan record can be, with an answer that it can have
 pub data ScanCall : Call → Answer → Type 0 where

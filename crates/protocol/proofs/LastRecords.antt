@@ -1,7 +1,7 @@
 -- The last record of a process, and those up to its last pivot.
-use Rattle.std.proofs.Common.{◌≡◌, ℕ, Bool, true, false, cond, ◌&&◌, ◌⊎◌, List, [], ◌∷◌, Some, None, Option, sym, refl, ap, ◌∙◌, subst, inl, inr, ⊎_elim}
+use Rattle.std.proofs.Common.{◌≡◌, ℕ, true, false, cond, ◌&&◌, ◌⊎◌, List, [], ◌∷◌, Some, None, Option, sym, refl, ap, ◌∙◌, subst, inl, inr, ⊎_elim}
 use Rattle.std.specs.List.{list_any}
-use Rattle.std.proofs.lemmas.Bool.{eqb-true, eqb-false, eq-eqb, or_parts, and_from, both_ways}
+use Rattle.std.proofs.lemmas.Bool.{eqb-true, eqb-false, eq-eqb, or_parts, and_from, both_ways, cond_both}
 use Rattle.protocol.specs.declared.record.Record.{Record}
 use Rattle.protocol.specs.Log.{owned, Split, rejoined, or_here, last_of, unless_pivot, returnable, pivoted, from_pivot}
 use Rattle.protocol.proofs.Members.{In, some_any, in_here}
@@ -25,11 +25,9 @@ last_is n (r ∷ rs) = go (last_of n rs) (last_is n rs)
   where
     go : (o : Option Split) → LastIs n rs o → LastIs n (r ∷ rs) (or_here n r rs o)
     go (Some s) was = record { whole = ap (λ l. r ∷ l) was.whole; owner = was.owner; after = was.after }
-    go None was = here (owned n r) refl
-      where
-        here : (b : Bool) → owned n r ≡ b → LastIs n (r ∷ rs) (cond b (Some record { before = []; at = r; after = rs }) None)
-        here true e = record { whole = refl; owner = eqb-true r.start n e; after = was }
-        here false e = λ x i same. elim i [ inl q ↦ eqb-false r.start n e (ap (λ y. y.start) (sym q) ∙ same) | inr j ↦ was x j same ]
+    go None was = cond_both (owned n r) (Some record { before = []; at = r; after = rs }) None (LastIs n (r ∷ rs))
+        (λ e. record { whole = refl; owner = eqb-true r.start n e; after = was })
+        (λ e x i same. elim i [ inl q ↦ eqb-false r.start n e (ap (λ y. y.start) (sym q) ∙ same) | inr j ↦ was x j same ])
 
 pub pivot_in : (n : ℕ) (log : List Record) (r : Record) → In r log → r.start ≡ n → r.pivot ≡ true → pivoted log n ≡ true
 pivot_in n log r i e p = some_any (λ x. owned n x && x.pivot) log r i (and_from (owned n r) r.pivot (eq-eqb r.start n e) p)
@@ -48,11 +46,9 @@ loose_is n log = go (last_of n log) (last_is n log)
   where
     go : (o : Option Split) → LastIs n log o → LooseIs n log (unless_pivot o)
     go None was = inl was
-    go (Some s) was = by s.at.pivot refl
-      where
-        by : (b : Bool) → s.at.pivot ≡ b → LooseIs n log (cond b None (Some s))
-        by true e = inr (subst (λ l. pivoted l n ≡ true) (sym was.whole) (pivot_in n (rejoined s) s.at (in_here s.before s.at s.after) was.owner e))
-        by false e = record { last = was; plain = e }
+    go (Some s) was = cond_both s.at.pivot None (Some s) (LooseIs n log)
+        (λ e. inr (subst (λ l. pivoted l n ≡ true) (sym was.whole) (pivot_in n (rejoined s) s.at (in_here s.before s.at s.after) was.owner e)))
+        (λ e. record { last = was; plain = e })
 
 -- with nothing to take back, and no kept pivot, there is no record
 pub none_own : (n : ℕ) (log : List Record) → pivoted log n ≡ false → returnable n log ≡ None → NotOf n log

@@ -1,3 +1,4 @@
+pub mod Tests
 pub mod Members
 pub mod Sealed
 pub mod Objections

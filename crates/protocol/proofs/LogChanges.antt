@@ -2,7 +2,7 @@
 use Rattle.std.proofs.Common.{◌≡◌, ℕ, suc, ◌<◌, ◌≤◌, Bool, true, false, cond, ◌&&◌, ◌||◌, eqb, ◌⊎◌, List, [], ◌∷◌, ◌++◌, map, Some, sym, refl, ap, ◌∙◌, subst, inl, inr, ⊎_elim, arith}
 use Rattle.std.specs.List.{list_any}
 use mathlib.Core.Path.{fun_ext}
-use Rattle.std.proofs.lemmas.Bool.{true≢false, false≢true, eqb-true, eqb-false, eq-eqb, ne_eqb, and_from, or_parts, or_left, or_right, and_left, and_cases, cases_eq, and_right, both_ways}
+use Rattle.std.proofs.lemmas.Bool.{eq-eqb, ne_eqb, and_from, or_parts, or_left, or_right, and_left, cases_eq, and_right, both_ways}
 use Rattle.serial.specs.Replay.{Replays}
 use Rattle.serial.specs.Actions.{KeepsGood, Commutes, Restores}
 use Rattle.serial.proofs.Replaying.{replay_push}
@@ -16,7 +16,8 @@ use Rattle.program.specs.Positions.{Position}
 use Rattle.protocol.specs.Log.{owned, own, Split, rejoined, removed, pivoted, group, number, prior, committed_under, from_pivot}
 use Rattle.protocol.specs.Hall.{Process, Hall, find, changed, move, past_pivot, record_of, standing_after}
 use Rattle.protocol.specs.StepFunction.{holds_conflict, holds_any_conflict, stands_before_conflict, performed, undone, committing}
-use Rattle.protocol.proofs.Members.{or_off, In, Before, all_from, before_first, before_second, in_push, before_push, in_more, before_more, before_here, in_here, in_map, before_map, any_none, any_push, any_more, any_map, in_kept, any_kept}
+use Rattle.protocol.proofs.Tests.{or_off}
+use Rattle.protocol.proofs.Members.{In, Before, all_from, before_first, before_second, in_push, before_push, in_more, before_more, before_here, in_here, in_map, before_map, any_none, any_push, any_more, any_map, in_kept, any_kept}
 use Rattle.protocol.proofs.Processes.{found_start, from_changed, to_changed, find_without, from_without}
 use Rattle.protocol.proofs.Ranks.{Rank, committed, pivoting, waiting, rank, Later, later, not_prior}
 use Rattle.protocol.proofs.Sealed.{sealed}

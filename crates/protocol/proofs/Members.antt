@@ -1,14 +1,11 @@
 -- What stands in a list, and what stands before what.
 use Rattle.std.proofs.Common.{◌≡◌, ℕ, zero, suc, get_or, Bool, true, false, cond, ◌&&◌, ◌||◌, ◌⊎◌, List, [], ◌∷◌, ◌++◌, map, filter, sym, refl, ap, ◌∙◌, inl, inr, ⊎_elim}
 use Rattle.std.proofs.lemmas.List.Folds.{list_any-append}
-use Rattle.std.proofs.lemmas.Bool.{false≢true, or_cases, or_parts, or_left, or_right, or_from}
+use Rattle.std.proofs.lemmas.Bool.{false≢true, or_cases, or_parts, or_left, or_right, or_from, cond_both}
 use Rattle.std.specs.List.{AllByRecursion, list_any}
 use Rattle.serial.specs.Sorts.{Pairwise}
+use Rattle.protocol.proofs.Tests.{or_off}
 pub use Rattle.protocol.specs.Relation.{In, Before}
-
-pub or_off : (b c : Bool) → c ≡ false → (b || c) ≡ b
-or_off true c e = refl
-or_off false c e = e
 
 module _ {X : Type 0} where
   pub all_from : (P : X → Type 0) (xs : List X) → ((x : X) → In x xs → P x) → AllByRecursion P xs
@@ -106,12 +103,15 @@ module _ {X : Type 0} where
 
   pub in_kept : (p : X → Bool) (xs : List X) (x : X) → In x xs → p x ≡ true → In x (filter p xs)
   in_kept p (y ∷ ys) x (inl q) e = rw (ap p (sym q) ∙ e) (inl q)
-  in_kept p (y ∷ ys) x (inr i) e = go (p y) (in_kept p ys x i e)
-    where
-      go : (b : Bool) → In x (filter p ys) → In x (cond b (y ∷ filter p ys) (filter p ys))
-      go true j = inr j
-      go false j = j
+  in_kept p (y ∷ ys) x (inr i) e = cond_both (p y) (y ∷ filter p ys) (filter p ys) (In x) (λ _. inr (in_kept p ys x i e)) (λ _. in_kept p ys x i e)
   in_kept p [] x i e = elim i [ ]
+
+  pub kept_in : (t : X → Bool) (xs : List X) (x : X) → In x (filter t xs) → In x xs × (t x ≡ true)
+  kept_in t [] x i = elim i [ ]
+  kept_in t (y ∷ ys) x i = cond_both (t y) (y ∷ filter t ys) (filter t ys) (λ l. In x l → In x (y ∷ ys) × (t x ≡ true))
+      (λ e j. ⊎_elim (λ f. (inl f, ap t f ∙ e)) (λ k. let (a, b) = kept_in t ys x k in (inr a, b)) j)
+      (λ e j. let (a, b) = kept_in t ys x j in (inr a, b))
+      i
 
   pub any_kept : (p t : X → Bool) (xs : List X) → list_any (λ x. t x && p x) xs ≡ list_any p (filter t xs)
   any_kept p t [] = refl

@@ -1,10 +1,10 @@
 -- What a process has kept up to its last pivot stays.
-use Rattle.std.proofs.Common.{◌≡◌, ℕ, suc, Bool, true, false, cond, ◌||◌, ◌⊎◌, List, [], ◌∷◌, ◌++◌, map, Some, None, filter, Option, sym, refl, ap, ◌∙◌, subst, inl, inr, append_assoc, append-nil}
+use Rattle.std.proofs.Common.{◌≡◌, ℕ, suc, Bool, true, false, cond, ◌||◌, ◌⊎◌, List, [], ◌∷◌, ◌++◌, map, Some, None, Option, sym, refl, ap, ◌∙◌, subst, inl, inr, append_assoc, append-nil}
 use Rattle.std.specs.List.{list_any}
 use Rattle.std.proofs.lemmas.List.{map-append}
 use Rattle.std.proofs.lemmas.List.Elements.{filter-append}
 use Rattle.std.proofs.lemmas.List.Folds.{list_any-append}
-use Rattle.std.proofs.lemmas.Bool.{or_left, eq-eqb, ne_eqb, cases_eq, false≢true}
+use Rattle.std.proofs.lemmas.Bool.{cond_both, or_left, eq-eqb, ne_eqb, cases_eq}
 use Rattle.activity.specs.declared.Activity.{Activity}
 use Rattle.protocol.specs.declared.record.Record.{Record}
 use Rattle.station.specs.Meaning.{Meaning}
@@ -16,7 +16,8 @@ use Rattle.protocol.specs.Call.{Call}
 use Rattle.protocol.specs.CallFunction.{outcome, ends}
 use Rattle.protocol.proofs.CallCases.{cases}
 use Rattle.protocol.specs.Statements.{without_commit_number, Begins}
-use Rattle.protocol.proofs.Members.{or_off, any_push, any_map}
+use Rattle.protocol.proofs.Tests.{or_off, kept_map}
+use Rattle.protocol.proofs.Members.{any_push, any_map}
 use Rattle.protocol.proofs.Sealed.{sealed}
 use Rattle.protocol.proofs.LastRecords.{NotOf, Loose, LooseIs, loose_is}
 
@@ -37,11 +38,7 @@ module _ {X : Type 0} where
 
 pub pivot_begins : (xs : List Record) → Begins (to_pivot xs) xs
 pivot_begins [] = begins_same []
-pivot_begins (x ∷ xs) = go (x.pivot || list_any (λ r. r.pivot) xs) (pivot_begins xs)
-  where
-    go : (b : Bool) → Begins (to_pivot xs) xs → Begins (cond b (x ∷ to_pivot xs) []) (x ∷ xs)
-    go true e = begins_cons x (to_pivot xs) xs e
-    go false e = (x ∷ xs, refl)
+pivot_begins (x ∷ xs) = cond_both (x.pivot || list_any (λ r. r.pivot) xs) (x ∷ to_pivot xs) [] (λ l. Begins l (x ∷ xs)) (λ _. begins_cons x (to_pivot xs) xs (pivot_begins xs)) (λ _. (x ∷ xs, refl))
 
 pub pivot_longer : (xs ys : List Record) → Begins (to_pivot xs) (to_pivot (xs ++ ys))
 pivot_longer [] ys = (to_pivot ys, refl)
@@ -93,12 +90,7 @@ grows_taken m log z l n = ap (firm n) l.last.whole ∙ go (cases_eq m n)
 
 module _ (m c : ℕ) where
   pub own_sealed : (n : ℕ) (xs : List Record) → own n (map (committed_under m c) xs) ≡ map (committed_under m c) (own n xs)
-  own_sealed n [] = refl
-  own_sealed n (x ∷ xs) = ap (λ b. cond b (committed_under m c x ∷ own n (map (committed_under m c) xs)) (own n (map (committed_under m c) xs))) (sealed (owned n) m c x refl) ∙ go (owned n x) (own_sealed n xs)
-    where
-      go : (b : Bool) → own n (map (committed_under m c) xs) ≡ map (committed_under m c) (own n xs) → cond b (committed_under m c x ∷ own n (map (committed_under m c) xs)) (own n (map (committed_under m c) xs)) ≡ map (committed_under m c) (cond b (x ∷ own n xs) (own n xs))
-      go true e = ap (λ l. committed_under m c x ∷ l) e
-      go false e = e
+  own_sealed n xs = kept_map (owned n) (owned n) (committed_under m c) (λ r. sealed (owned n) m c r refl) xs
 
   any_sealed : (xs : List Record) → list_any (λ r. r.pivot) (map (committed_under m c) xs) ≡ list_any (λ r. r.pivot) xs
   any_sealed xs = any_map (λ r. r.pivot) (committed_under m c) (λ r. sealed (λ x. x.pivot) m c r refl) xs

@@ -1,14 +1,9 @@
 -- The same by places in tables, as code has them.
 use Rattle.std.proofs.Common.{◌≡◌, ℕ, zero, suc, ◌<◌, min, Bool, true, false, cond, not, eqb, List, [], ◌∷◌, ◌++◌, length, get_or, take, drop, set, Some, None, Option, refl, ap, ◌∙◌, arith}
-use lib.Seq.{split_at}
 use Rattle.std.specs.List.{AllByRecursion}
 use Rattle.std.proofs.lemmas.Bool.{eq-eqb, ne_eqb}
 use Rattle.serial.specs.Sorts.{Pairwise}
-use Rattle.protocol.specs.declared.record.Record.{Record}
-use Rattle.protocol.specs.Log.{last_of}
-use Rattle.protocol.specs.Hall.{Process, find, without, changed, least, lower}
-use Rattle.protocol.proofs.LastRecords.{NotOf}
-use Rattle.protocol.proofs.StepsExact.{last_here}
+use Rattle.protocol.specs.Hall.{Process, without, changed, least, lower}
 
 -- start numbers rise along the table
 abbrev pub Rising : List Process → Type 0
@@ -29,13 +24,6 @@ all_there n [] all = refl
 all_there n (p ∷ ps) all = ap (λ b. cond (not b) (p ∷ without n ps) (without n ps)) (ne_eqb p.start n (λ (e : p.start ≡ n). omega (arith, all.0))) ∙ ap (λ l. p ∷ l) (all_there n ps all.1)
 
 module _ (d : Process) where
-  pub found_at : (ps : List Process) (i : ℕ) → Rising ps → i < length ps → find (get_or ps i d).start ps ≡ Some (get_or ps i d)
-  found_at [] i r h = absurd (omega arith)
-  found_at (p ∷ ps) zero r h = ap (λ b. cond b (Some p) (find p.start ps)) (eq-eqb p.start p.start refl)
-  found_at (p ∷ ps) (suc i) r h =
-      let up = above p.start ps i d (omega arith) r.0 in
-      ap (λ b. cond b (Some p) (find (get_or ps i d).start ps)) (ne_eqb p.start (get_or ps i d).start (λ (e : p.start ≡ (get_or ps i d).start). omega arith)) ∙ found_at ps i r.1 (omega arith)
-
   pub changed_at : (f : Process → Process) (ps : List Process) (i : ℕ) → Rising ps → i < length ps → changed (get_or ps i d).start f ps ≡ set ps i (f (get_or ps i d))
   changed_at f [] i r h = absurd (omega arith)
   changed_at f (p ∷ ps) zero r h = λ j. ap (λ b. cond b (f p) p) (eq-eqb p.start p.start refl) j ∷ untold p.start f ps r.0 j
@@ -52,10 +40,6 @@ module _ (d : Process) where
       let up = above p.start ps i d (omega arith) r.0 in
       ap (λ b. cond (not b) (p ∷ without (get_or ps i d).start ps) (without (get_or ps i d).start ps)) (ne_eqb p.start (get_or ps i d).start (λ (e : p.start ≡ (get_or ps i d).start). omega arith))
       ∙ ap (λ l. p ∷ l) (without_at ps i r.1 (omega arith))
-
--- the last record of a process, by its place
-pub last_at : (n : ℕ) (log : List Record) (i : ℕ) (d : Record) → i < length log → (get_or log i d).start ≡ n → NotOf n (drop (suc i) log) → last_of n log ≡ Some record { before = take i log; at = get_or log i d; after = drop (suc i) log }
-last_at n log i d h mine none = ap (last_of n) (split_at log i d h) ∙ last_here n (take i log) (get_or log i d) (drop (suc i) log) mine none
 
 -- the least one, with a best so far, as a loop finds it
 abbrev pub least_from : (Process → Bool) → Option ℕ → List Process → Option ℕ

@@ -1,9 +1,7 @@
 -- What comes next fits.
-use Rattle.std.proofs.Common.{◌≡◌, ℕ, zero, suc, Bool, true, false, eqb, ltb, List, [], ◌∷◌, ◌++◌, Some, None, Option, sym, refl}
-use Rattle.std.specs.List.{AllByRecursion, list_any}
+use Rattle.std.proofs.Common.{◌≡◌, ℕ, zero, suc, true, false, List, [], ◌∷◌, ◌++◌, None, refl}
+use Rattle.std.specs.List.{AllByRecursion}
 use Rattle.std.proofs.lemmas.Bool.{true≢false, false≢true, not-false}
-use Rattle.std.specs.Bool.{then_some}
-use Rattle.std.specs.Option.{option_or}
 use Rattle.activity.specs.declared.Activity.{Activity}
 use Rattle.protocol.specs.declared.standing.Aim.{Aim}
 use Rattle.protocol.specs.declared.standing.Standing.{Standing}
@@ -15,7 +13,6 @@ use Rattle.program.specs.Positions.{in_body, in_row, Position, outer, inner, alt
 use Rattle.protocol.specs.Ahead.{Next, nothing, plain, crossing, next}
 use Rattle.program.specs.declared.command.Step.{Step}
 use Rattle.protocol.specs.Hall.{failed, Hall}
-use Rattle.protocol.specs.declared.answer.Refusal.TheVariants.{NoPlace, Busy}
 use Rattle.protocol.specs.CallFunction.{fits, fault, faults, against_load}
 use Rattle.protocol.proofs.Objections.{neither, not_so, no_faults}
 use Rattle.protocol.proofs.Sound.{FitsRow, FitsBody, FitsChoices, FitsRest, rowless, Placed}

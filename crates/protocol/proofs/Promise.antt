@@ -1,6 +1,6 @@
 -- The promise, over the run that the functions compute.
-use Rattle.std.proofs.Common.{◌≡◌, ℕ, ◌<◌, ◌≤◌, Bool, true, false, cond, ◌&&◌, eqb, ltb, leb, ◌⊎◌, List, [], ◌∷◌, ◌++◌, map, length, Some, None, Option, sym, refl, ap, ◌∙◌, subst, inl, inr, ⊎_elim, append_assoc, arith}
-use Rattle.std.proofs.lemmas.Bool.{or_left, or_right, or_cases, and_from, and_parts, eq-eqb, eqb-true, le-leb, leb-true, lt-ltb, ltb-true, cases_eq}
+use Rattle.std.proofs.Common.{◌≡◌, ℕ, ◌<◌, ◌≤◌, ◌⊎◌, Bool, true, false, cond, eqb, ltb, List, [], ◌∷◌, ◌++◌, map, length, Some, None, Option, sym, refl, ap, ◌∙◌, subst, inl, inr, ⊎_elim, append_assoc, arith}
+use Rattle.std.proofs.lemmas.Bool.{eqb-true, cases_eq}
 use Rattle.serial.specs.Sorts.{Pairwise}
 use Rattle.serial.specs.Replay.{Replays}
 use Rattle.serial.proofs.Sorting.{sort_sorted, sort_stable}
@@ -16,7 +16,7 @@ use Rattle.protocol.specs.Call.{Call, Event, call, scan}
 use Rattle.protocol.specs.CallFunction.{singles, all_singles, ends, outcome, one, scanned, calls_of, and_call, after, after_all}
 use Rattle.protocol.specs.Letters.{call_of}
 use Rattle.protocol.specs.declared.scan.Request.{Request}
-use Rattle.protocol.proofs.Ranks.{Later, later}
+use Rattle.protocol.proofs.Ranks.{later}
 use Rattle.program.specs.Places.{nth}
 use Rattle.protocol.specs.Statements.{Agree, Orderly, without_commit_number, Begins, Fixed}
 use Rattle.protocol.proofs.Computed.{hall_after, book_after, history}
@@ -27,11 +27,11 @@ use Rattle.protocol.proofs.StandingChanges.{sound_fresh}
 use Rattle.protocol.proofs.History.{history_is, sound_events}
 use Rattle.protocol.proofs.PivotsStay.{grows_ends, pivot_begins, begins_map, begins_more}
 use Rattle.protocol.proofs.LogChanges.{any_state, commuting}
-use Rattle.protocol.proofs.Ties.{before_or_same, tied, in_own}
+use Rattle.protocol.proofs.Ties.{prior_tells, tied, in_own}
 
 -- records of one process stand together
 prior_kin : (piv : ℕ → Bool) (a b : Record) → a.start ≡ b.start → a.commit ≡ b.commit → prior piv a b ≡ true
-prior_kin piv a b s c = or_right (ltb (group piv a) (group piv b)) (eqb (group piv a) (group piv b) && leb (number a) (number b)) (and_from (eqb (group piv a) (group piv b)) (leb (number a) (number b)) (eq-eqb (group piv a) (group piv b) same) (le-leb (number a) (number b) (omega (arith, alike))))
+prior_kin piv a b s c = (prior_tells piv a b).passes (inr (same, omega (arith, alike)))
   where
     same : group piv a ≡ group piv b
     same = λ i. cond (eqb (c i) 0) (cond (piv (s i)) 1 2) 0
@@ -41,26 +41,22 @@ prior_kin piv a b s c = or_right (ltb (group piv a) (group piv b)) (eqb (group p
 
 -- the comparison is an order, so sorting sorts
 total : (piv : ℕ → Bool) (a b : Record) → prior piv a b ≡ false → prior piv b a ≡ true
-total piv a b e = go (later piv a b e)
-  where
-    go : Later piv a b → prior piv b a ≡ true
-    go l = ⊎_elim
-        (λ same. or_right (ltb (group piv b) (group piv a)) (eqb (group piv b) (group piv a) && leb (number b) (number a)) (and_from (eqb (group piv b) (group piv a)) (leb (number b) (number a)) (eq-eqb (group piv b) (group piv a) same) (le-leb (number b) (number a) (let less = l.within (sym same) in omega arith))))
-        (λ (apart : group piv b ≡ group piv a → ⊥). or_left (ltb (group piv b) (group piv a)) (eqb (group piv b) (group piv a) && leb (number b) (number a)) (lt-ltb (group piv b) (group piv a) (let low = l.low in omega arith)))
-        (cases_eq (group piv b) (group piv a))
+total piv a b e =
+    let l = later piv a b e in
+    let low = l.low in
+    (prior_tells piv b a).passes (⊎_elim
+    (λ (same : group piv b ≡ group piv a). let less = l.within (sym same) in inr (same, omega arith))
+    (λ (apart : group piv b ≡ group piv a → ⊥). inl (omega arith))
+    (cases_eq (group piv b) (group piv a)))
 
 transitive : (piv : ℕ → Bool) (a b c : Record) → prior piv a b ≡ true → prior piv b c ≡ true → prior piv a c ≡ true
-transitive piv a b c e f = go (prior piv a c) refl
+transitive piv a b c e f = (prior_tells piv a c).passes (go ((prior_tells piv a b).holds e) ((prior_tells piv b c).holds f))
   where
-    go : (t : Bool) → prior piv a c ≡ t → t ≡ true
-    go true g = refl
-    go false g =
-        let l = later piv a c g in
-        let low = l.low in
-        absurd (⊎_elim
-        (λ (x : group piv a < group piv b). ⊎_elim (λ (y : group piv b < group piv c). omega arith) (λ (y : (group piv b ≡ group piv c) × (number b ≤ number c)). omega arith) (before_or_same piv b c f))
-        (λ (x : (group piv a ≡ group piv b) × (number a ≤ number b)). ⊎_elim (λ (y : group piv b < group piv c). omega arith) (λ (y : (group piv b ≡ group piv c) × (number b ≤ number c)). let less = l.within (x.0 ∙ y.0) in omega arith) (before_or_same piv b c f))
-        (before_or_same piv a b e))
+    go : (group piv a < group piv b) ⊎ ((group piv a ≡ group piv b) × (number a ≤ number b)) → (group piv b < group piv c) ⊎ ((group piv b ≡ group piv c) × (number b ≤ number c)) → (group piv a < group piv c) ⊎ ((group piv a ≡ group piv c) × (number a ≤ number c))
+    go (inl x) (inl y) = inl (omega arith)
+    go (inl x) (inr y) = inl (omega (arith, y.0))
+    go (inr x) (inl y) = inl (omega (arith, x.0))
+    go (inr x) (inr y) = inr (x.0 ∙ y.0, omega (arith, x.1, y.1))
 
 sorted_orderly : (log : List Record) → Pairwise (λ a b. prior (pivoted log) a b ≡ true) (orderly log)
 sorted_orderly log = sort_sorted (prior (pivoted log)) (total (pivoted log)) (transitive (pivoted log)) log
@@ -69,7 +65,7 @@ singles_append : (es more : List Event) → all_singles (es ++ more) ≡ all_sin
 singles_append [] more = refl
 singles_append (e ∷ es) more = ap (λ l. singles e ++ l) (singles_append es more) ∙ sym (append_assoc (singles e) (all_singles es) (all_singles more))
 
-module _ {S : Type 0} (M : Meaning S) (laws : Laws M) where
+module _ {S : Type 0} (M : Meaning S) where
   ends_append : (h : Hall S) (cs ds : List Call) → ends M h (cs ++ ds) ≡ ends M (ends M h cs) ds
   ends_append h [] ds = refl
   ends_append h (c ∷ cs) ds = ends_append (outcome M h c).hall cs ds
@@ -94,6 +90,7 @@ module _ {S : Type 0} (M : Meaning S) (laws : Laws M) where
   all_is h [] = refl
   all_is h (e ∷ es) = all_is (after M h e) es ∙ ap (λ g. ends M g (all_singles es)) (after_is h e) ∙ sym (ends_append h (singles e) (all_singles es))
 
+module _ {S : Type 0} (M : Meaning S) (laws : Laws M) where
   sound_after : (s : S) (es : List Event) → Sound M s (hall_after M s es)
   sound_after s es = sound_events M laws s (fresh s) (sound_fresh M s) es
 
@@ -131,7 +128,7 @@ module _ {S : Type 0} (M : Meaning S) (laws : Laws M) where
 
   pub stays : (s : S) (es more : List Event) (n : ℕ) → Fixed (history M (fresh s) es) (history M (fresh s) (es ++ more)) n
   stays s es more n =
-      let later : hall_after M s (es ++ more) ≡ ends M (hall_after M s es) (all_singles more) = all_is (fresh s) (es ++ more) ∙ ap (ends M (fresh s)) (singles_append es more) ∙ ends_append (fresh s) (all_singles es) (all_singles more) ∙ ap (λ g. ends M g (all_singles more)) (sym (all_is (fresh s) es)) in
+      let later : hall_after M s (es ++ more) ≡ ends M (hall_after M s es) (all_singles more) = all_is M (fresh s) (es ++ more) ∙ ap (ends M (fresh s)) (singles_append es more) ∙ ends_append M (fresh s) (all_singles es) (all_singles more) ∙ ap (λ g. ends M g (all_singles more)) (sym (all_is M (fresh s) es)) in
       let log = (hall_after M s es).log in
       let log' = (ends M (hall_after M s es) (all_singles more)).log in
       let goes = begins_more (map without_commit_number (to_pivot (own n log))) (map without_commit_number (to_pivot (own n log'))) (map without_commit_number (own n log')) (grows_ends M (hall_after M s es) (all_singles more) n) (begins_map without_commit_number (to_pivot (own n log')) (own n log') (pivot_begins (own n log'))) in

@@ -1,43 +1,34 @@
 -- Every call leaves room in the log.
-use Rattle.std.proofs.Common.{◌≡◌, ℕ, zero, suc, ◌+◌, ◌*◌, ◌≤◌, Bool, true, false, cond, not, ◌&&◌, eqb, ltb, leb, List, [], ◌∷◌, ◌++◌, map, length, get_or, is_some, Some, None, filter, Option, sym, refl, ap, ◌∙◌, subst, ⊎_elim, append-nil, arith}
+use Rattle.std.proofs.Common.{◌≡◌, ℕ, zero, suc, ◌+◌, ◌*◌, ◌≤◌, Bool, true, false, cond, not, ◌&&◌, eqb, List, [], ◌∷◌, ◌++◌, map, length, get_or, Some, None, filter, Option, sym, refl, ap, ◌∙◌, subst, ⊎_elim, append-nil, arith}
 use Rattle.std.specs.List.{AllByRecursion}
-use Rattle.std.proofs.lemmas.Bool.{eqb-true, eq-eqb, ne_eqb, ltb-false, cases_eq, cond_both}
-use Rattle.std.specs.Bool.{then_some}
-use Rattle.std.specs.Option.{option_or}
+use Rattle.std.proofs.lemmas.Bool.{eqb-true, eq-eqb, ne_eqb, cases_eq, cond_both}
 use Rattle.std.proofs.lemmas.Option.{none-some}
 use Rattle.std.proofs.lemmas.List.Filters.{length-filter_both}
 use Rattle.std.proofs.lemmas.List.{length-map, length_push}
 use Rattle.serial.proofs.Lists.{all_set}
 use Rattle.activity.specs.declared.Activity.{Activity}
 use Rattle.protocol.specs.declared.record.Record.{Record}
-use Rattle.protocol.specs.declared.answer.Refusal.TheVariants.{NoPlace, NotLoaded, Full, NoNumber, NoRoom}
 use Rattle.protocol.specs.declared.standing.Aim.TheVariants.{Restart, End}
 use Rattle.protocol.specs.declared.standing.Direction.TheVariants.{Forward}
 use Rattle.protocol.specs.declared.standing.Standing.TheVariants.{Running, Withdrawing, PastPivot}
 use Rattle.station.specs.Meaning.{Meaning}
-use Rattle.protocol.specs.Means.{Laws}
 use Rattle.program.specs.Grammar.{Body, Choices, row, or_else}
 use Rattle.program.specs.Positions.{Position, outer, inner, alternative, reached, into, alternative_of}
 use Rattle.protocol.specs.Log.{Split, own, removed, returnable, to_pivot, from_pivot, committed_under, committed_records}
 use Rattle.protocol.specs.Hall.{Process, Hall, fresh, find, without, change, changed, stand, move, with_processes, running, body_of, beginning, failed, standing_after, record_of}
 use Rattle.protocol.specs.StepFunction.{marked, performed, undone, committing}
-use Rattle.protocol.specs.Call.{Call, Event}
-use Rattle.protocol.specs.CallFunction.{against_open, loaded, opened, outcome, ends, all_singles}
+use Rattle.protocol.specs.Call.{Call}
+use Rattle.protocol.specs.CallFunction.{loaded, opened, outcome}
 use Rattle.protocol.proofs.CallCases.{cases}
 use Rattle.protocol.specs.Statements.{without_commit_number}
-use Rattle.protocol.proofs.Computed.{hall_after}
-use Rattle.protocol.proofs.Members.{In, all_at}
+use Rattle.protocol.proofs.Members.{In, kept_in, all_at}
 use Rattle.protocol.proofs.Processes.{marked_keeps, from_map, from_changed, from_without, from_push}
 use Rattle.protocol.proofs.Objections.{openable}
 use Rattle.protocol.proofs.LastRecords.{NotOf, Loose, LooseIs, loose_is}
 use Rattle.protocol.proofs.PivotsStay.{own_none, own_sealed, pivot_sealed, pivot_plain}
-use Rattle.protocol.proofs.Counts.{parts, size, Roomy, roomy_few, roomy_alike, NextRoom, next_room, own_pushed, own_taken, own_left, own_others, none_loose, closed_push, closed_less, closed_sealed, without_less, kept_in, fewer_own, spread}
+use Rattle.protocol.proofs.Counts.{parts, size, Roomy, roomy_few, roomy_alike, NextRoom, next_room, own_pushed, own_taken, own_left, own_others, none_loose, closed_push, closed_less, closed_sealed, without_less, fewer_own, spread}
 use Rattle.protocol.specs.Held.{rest_size}
 pub use Rattle.protocol.specs.Held.{Rooms}
-use Rattle.protocol.proofs.Sound.{Sound}
-use Rattle.protocol.proofs.StandingChanges.{sound_fresh}
-use Rattle.protocol.proofs.SoundKept.{sound_outcome, sound_ends, none_left}
-use Rattle.protocol.proofs.Promise.{all_is}
 
 fits_at : (k : ℕ) (xs : List (Option Body)) → AllByRecursion (λ o. size (body_of o) ≤ 32) xs → size (body_of (get_or xs k None)) ≤ 32
 fits_at k xs all = all_at (λ o. size (body_of o) ≤ 32) None (omega arith) k xs all
@@ -177,22 +168,14 @@ module _ {S : Type 0} (M : Meaning S) where
     turns = λ p is e none. rooms_changed h rooms p.start p is (move (PastPivot Forward) (into (suc (alternative_of p.at)) p.at)) (λ q. refl) (into_room (own p.start h.log) p.at (suc (alternative_of p.at)) (none_loose p.start h.log none) (rooms.actives p.start p is));
   }
 
-module _ {S : Type 0} (M : Meaning S) (laws : Laws M) (s : S) where
-  rooms_outcome : (h : Hall S) → Sound M s h → Rooms h → (c : Call) → Rooms (outcome M h c).hall
-  rooms_outcome h sound rooms = rooms_by M h (λ r i (f : r.start ≡ suc h.given). omega (arith, (sound.owners r i).low)) (λ p is e none. none_left M laws s h sound p is e none) rooms
-
-  rooms_ends : (h : Hall S) → Sound M s h → Rooms h → (cs : List Call) → Rooms (ends M h cs)
-  rooms_ends h sound rooms [] = rooms
-  rooms_ends h sound rooms (c ∷ cs) = rooms_ends (outcome M h c).hall (sound_outcome M laws s h sound c) (rooms_outcome h sound rooms c) cs
-
-  pub rooms_fresh : Rooms (fresh s)
-  rooms_fresh = record {
+module _ {S : Type 0} where
+  pub rooms_fresh : (s : S) → Rooms (fresh s)
+  rooms_fresh s = record {
     programs = (omega arith, (omega arith, (omega arith, (omega arith, (omega arith, (omega arith, (omega arith, (omega arith, tt))))))));
     actives = λ n q e. absurd (none-some _ e);
     budget = omega arith;
   }
 
-module _ {S : Type 0} where
   pub few : (h : Hall S) → ((r : Record) → In r h.log → r.commit ≡ 0 → (q : Process) × (find r.start h.processes ≡ Some q)) → Rooms h → length h.log ≤ 1024
   few h active rooms =
       let open-few = spread h.processes (filter (λ r. eqb r.commit 0) h.log)
@@ -203,6 +186,3 @@ module _ {S : Type 0} where
       each : (n : ℕ) (o : Option Process) → find n h.processes ≡ o → length (own n (filter (λ r. eqb r.commit 0) h.log)) ≤ 32
       each n (Some q) e = omega (arith, fewer_own n (λ r. eqb r.commit 0) h.log, roomy_few (own n h.log) q.at (rooms.actives n q e))
       each n None e = omega (arith, ap length (own_none n (filter (λ r. eqb r.commit 0) h.log) (λ r i f. let (j, c) = kept_in (λ r. eqb r.commit 0) h.log r i in let (q, at) = active r j (eqb-true r.commit 0 c) in none-some _ (sym e ∙ ap (λ k. find k h.processes) (sym f) ∙ at))))
-
-pub has_room : {S : Type 0} (M : Meaning S) → Laws M → (s : S) (es : List Event) → length (hall_after M s es).log ≤ 1024
-has_room M laws s es = subst (λ h. length h.log ≤ 1024) (sym (all_is M laws (fresh s) es)) (few (ends M (fresh s) (all_singles es)) (λ r i. ((sound_ends M laws s (fresh s) (sound_fresh M s) (all_singles es)).owners r i).active) (rooms_ends M laws s (fresh s) (sound_fresh M s) (rooms_fresh M laws s) (all_singles es)))

@@ -1,6 +1,6 @@
 -- Every call keeps a hall sound.
 use Rattle.std.proofs.Common.{◌≡◌, ℕ, suc, ◌≤◌, Bool, true, false, not, ◌&&◌, ◌||◌, List, [], ◌∷◌, is_some, Some, None, Option, sym, refl, ap, ◌∙◌, subst, inl, inr, ⊎_elim}
-use Rattle.std.proofs.lemmas.Bool.{true≢false, false≢true, ne_eqb, and_cases, or_parts, ltb-false, both_ways, cases_Bool}
+use Rattle.std.proofs.lemmas.Bool.{true≢false, false≢true, ne_eqb, and_cases, or_parts, ltb-false, cases_Bool}
 use Rattle.activity.specs.declared.Activity.{Activity}
 use Rattle.protocol.specs.declared.standing.Aim.{Aim}
 use Rattle.protocol.specs.declared.standing.Standing.{Standing}
@@ -11,12 +11,12 @@ use Rattle.station.specs.Meaning.{Meaning}
 use Rattle.protocol.specs.Means.{Laws}
 use Rattle.program.specs.Positions.{Position, outer, inner, into, alternative_of}
 use Rattle.protocol.specs.Ahead.{Next, plain, crossing, next}
-use Rattle.protocol.specs.Log.{returnable, own, from_pivot, pivoted}
+use Rattle.protocol.specs.Log.{returnable, own, from_pivot}
 use Rattle.protocol.specs.Hall.{Process, Hall, find, past_pivot, retreating, stand, move, beginning, failed}
 use Rattle.protocol.specs.StepFunction.{holds_conflict, holds_any_conflict, stands_before_conflict, other, younger, blocks_plain, blocks_pivot, blocks_alone, performed}
 use Rattle.protocol.specs.Call.{Call}
 use Rattle.protocol.specs.CallFunction.{outcome, ends}
-use Rattle.protocol.proofs.Processes.{found_start}
+use Rattle.protocol.proofs.Processes.{found_start, failed_pivot}
 use Rattle.protocol.proofs.LastRecords.{none_own, loose_is, LooseIs, NotOf}
 use Rattle.protocol.proofs.CallCases.{Going, Backing, Passes, cases}
 use Rattle.protocol.proofs.Sound.{rowless, Placed, Sound}
@@ -38,15 +38,10 @@ module _ {S : Type 0} (M : Meaning S) (laws : Laws M) (s : S) where
 
     sound_failed : rowless p.at ≡ true → (pivot : Bool) (a : Activity) (to : Position) → Sound M s (performed h p pivot a to None).hall
     sound_failed free pivot a to = sound_changed M s h sound p.start p is (stand (failed p.standing)) (λ q. refl) record {
-      pivot = go p.standing refl;
+      pivot = failed_pivot p.standing;
       row = λ e. e;
       placed = failed_placed M p.standing p.at placed free;
     }
-      where
-        go : (st : Standing) → p.standing ≡ st → past_pivot (failed p.standing) ≡ past_pivot p.standing
-        go Running e = ap (λ x. past_pivot (failed x)) e ∙ sym (ap past_pivot e)
-        go (Withdrawing aim) e = ap (λ x. past_pivot (failed x)) e ∙ sym (ap past_pivot e)
-        go (PastPivot way) e = ap (λ x. past_pivot (failed x)) e ∙ sym (ap past_pivot e)
 
     apart : (n : ℕ) (q : Process) → find n h.processes ≡ Some q → (n ≡ p.start → ⊥) → q.start ≡ p.start → ⊥
     apart n q at off e = off (sym (found_start n h.processes q at) ∙ e)

@@ -19,6 +19,7 @@ use Rattle.protocol.specs.StepFunction.{blocks_back, blocks_plain, blocks_pivot,
 use Rattle.protocol.specs.Relation.{Retreats, Advances, Past, ToTakeBack, NoneToTakeBack, BlocksBack, BlocksPlain, BlocksPivot, BlocksCommit, Nobody, Free, free_plain, free_pivot, Steps, waits_back, takes_back, restarts, leaves, takes_next_alternative, waits_plain, waits_alone, waits_pivot, performs, fails, waits_commit, commits}
 use Rattle.protocol.specs.Exact.{Exact}
 use Rattle.protocol.proofs.LastRecords.{NotOf, Loose, LooseIs, loose_is}
+use Rattle.protocol.proofs.CallCases.{by_blockers}
 use Rattle.protocol.proofs.Blocking.{back_tells, plain_tells, pivot_tells, pivot_marks_tell, everybody_tells, alone_tells, commit_tells, nobody_from, smallest_from, nobody_to, smallest_to, marked_from, marked_to, unmarked}
 
 -- the record to take back is the one that is found
@@ -63,24 +64,14 @@ module _ {S : Type 0} (M : Meaning S) (h : Hall S) (p : Process) where
   came_performed adv pivot a to free (Some d) e = (turns.Done d.0, refl, performs adv free e)
 
   came_plain : Advances p.standing → (a : Activity) (to : Position) → next p.at ≡ plain a to → Came (forward M h p (plain a to))
-  came_plain adv a to e = go (least t h.processes) refl
-    where
-      t : Process → Bool
-      t = blocks_plain M.conflict h.log p a
-
-      go : (o : Option ℕ) → least t h.processes ≡ o → Came (waits h t everybody (performed h p false a to (M.performed h.station a)) o)
-      go None l = came_performed adv false a to (free_plain e (nobody_from M p t (BlocksPlain M h p a) (plain_tells M p h a) h l)) (M.performed h.station a) refl
-      go (Some n) l = (turns.Wait n, refl, waits_plain adv e (smallest_from M p t (BlocksPlain M h p a) (plain_tells M p h a) h n l) (marked_from M p (λ q. t q && everybody q) (BlocksPlain M h p a) (everybody_tells M p t (BlocksPlain M h p a) (plain_tells M p h a)) h.processes))
+  came_plain adv a to e = by_blockers M h Came (blocks_plain M.conflict h.log p a) everybody (performed h p false a to (M.performed h.station a))
+      (λ l. came_performed adv false a to (free_plain e (nobody_from M p (blocks_plain M.conflict h.log p a) (BlocksPlain M h p a) (plain_tells M p h a) h l)) (M.performed h.station a) refl)
+      (λ n l. (turns.Wait n, refl, waits_plain adv e (smallest_from M p (blocks_plain M.conflict h.log p a) (BlocksPlain M h p a) (plain_tells M p h a) h n l) (marked_from M p (λ q. blocks_plain M.conflict h.log p a q && everybody q) (BlocksPlain M h p a) (everybody_tells M p (blocks_plain M.conflict h.log p a) (BlocksPlain M h p a) (plain_tells M p h a)) h.processes)))
 
   came_pivot : Advances p.standing → (a : Activity) (to : Position) → next p.at ≡ crossing a to → ((Past p → ⊥) → Nobody h p Past) → Came (unless_blocked h (blocks_pivot M.conflict h.log p a) (pivot_marks p) (performed h p true a to (M.performed h.station a)))
-  came_pivot adv a to e alone = go (least t h.processes) refl
-    where
-      t : Process → Bool
-      t = blocks_pivot M.conflict h.log p a
-
-      go : (o : Option ℕ) → least t h.processes ≡ o → Came (waits h t (pivot_marks p) (performed h p true a to (M.performed h.station a)) o)
-      go None l = came_performed adv true a to (free_pivot e alone (nobody_from M p t (BlocksPivot M h p a) (pivot_tells M p h a) h l)) (M.performed h.station a) refl
-      go (Some n) l = (turns.Wait n, refl, waits_pivot adv e alone (smallest_from M p t (BlocksPivot M h p a) (pivot_tells M p h a) h n l) (marked_from M p (λ q. t q && pivot_marks p q) (λ q. BlocksPivot M h p a q × (Past p ⊎ (Prim.Native.Nat.◌<◌ p.start q.start))) (pivot_marks_tell M p h a) h.processes))
+  came_pivot adv a to e alone = by_blockers M h Came (blocks_pivot M.conflict h.log p a) (pivot_marks p) (performed h p true a to (M.performed h.station a))
+      (λ l. came_performed adv true a to (free_pivot e alone (nobody_from M p (blocks_pivot M.conflict h.log p a) (BlocksPivot M h p a) (pivot_tells M p h a) h l)) (M.performed h.station a) refl)
+      (λ n l. (turns.Wait n, refl, waits_pivot adv e alone (smallest_from M p (blocks_pivot M.conflict h.log p a) (BlocksPivot M h p a) (pivot_tells M p h a) h n l) (marked_from M p (λ q. blocks_pivot M.conflict h.log p a q && pivot_marks p q) (λ q. BlocksPivot M h p a q × (Past p ⊎ (Prim.Native.Nat.◌<◌ p.start q.start))) (pivot_marks_tell M p h a) h.processes)))
 
   -- nobody waits for another past its pivot who is past one himself
   alone_past : past_pivot p.standing ≡ true → least (blocks_alone p) h.processes ≡ None
@@ -105,21 +96,14 @@ module _ {S : Type 0} (M : Meaning S) (h : Hall S) (p : Process) where
       past is = subst (λ o. Came (waits h (blocks_alone p) nobody on o)) (sym (alone_past is)) (came_pivot adv a to e (λ off. absurd (off is)))
 
       run : past_pivot p.standing ≡ false → Came (forward M h p (crossing a to))
-      run is = go (least (blocks_alone p) h.processes) refl
-        where
-          go : (o : Option ℕ) → least (blocks_alone p) h.processes ≡ o → Came (waits h (blocks_alone p) nobody on o)
-          go None l = came_pivot adv a to e (λ off. nobody_from M p (blocks_alone p) Past (alone_tells M p is) h l)
-          go (Some n) l = (turns.Wait n, refl, subst (λ g. Steps M h p g (turns.Wait n)) (sym (unmarked_hall (blocks_alone p))) (waits_alone (runs_when p.standing adv is) e (smallest_from M p (blocks_alone p) Past (alone_tells M p is) h n l)))
+      run is = by_blockers M h Came (blocks_alone p) nobody on
+          (λ l. came_pivot adv a to e (λ off. nobody_from M p (blocks_alone p) Past (alone_tells M p is) h l))
+          (λ n l. (turns.Wait n, refl, subst (λ g. Steps M h p g (turns.Wait n)) (sym (unmarked_hall (blocks_alone p))) (waits_alone (runs_when p.standing adv is) e (smallest_from M p (blocks_alone p) Past (alone_tells M p is) h n l))))
 
   came_commit : Advances p.standing → next p.at ≡ nothing → Came (forward M h p nothing)
-  came_commit adv e = go (least t h.processes) refl
-    where
-      t : Process → Bool
-      t = blocks_commit M.conflict h.log p
-
-      go : (o : Option ℕ) → least t h.processes ≡ o → Came (waits h t nobody (committing h p) o)
-      go None l = (turns.Committed (suc h.committed), refl, commits adv e (nobody_from M p t (BlocksCommit M h p) (commit_tells M p h) h l))
-      go (Some n) l = (turns.Wait n, refl, subst (λ g. Steps M h p g (turns.Wait n)) (sym (unmarked_hall t)) (waits_commit adv e (smallest_from M p t (BlocksCommit M h p) (commit_tells M p h) h n l)))
+  came_commit adv e = by_blockers M h Came (blocks_commit M.conflict h.log p) nobody (committing h p)
+      (λ l. (turns.Committed (suc h.committed), refl, commits adv e (nobody_from M p (blocks_commit M.conflict h.log p) (BlocksCommit M h p) (commit_tells M p h) h l)))
+      (λ n l. (turns.Wait n, refl, subst (λ g. Steps M h p g (turns.Wait n)) (sym (unmarked_hall (blocks_commit M.conflict h.log p))) (waits_commit adv e (smallest_from M p (blocks_commit M.conflict h.log p) (BlocksCommit M h p) (commit_tells M p h) h n l))))
 
   came_forward : Advances p.standing → (x : Next) → next p.at ≡ x → Came (forward M h p x)
   came_forward adv nothing e = came_commit adv e
@@ -128,14 +112,9 @@ module _ {S : Type 0} (M : Meaning S) (h : Hall S) (p : Process) where
 
   came_backward : Retreats p.standing → (on : Outcome S) → (NoneToTakeBack p.start h.log → Came on) → (o : Option Split) → returnable p.start h.log ≡ o → Came (backward M h p on o)
   came_backward ret on none None e = none (loose_none p.start h.log e)
-  came_backward ret on none (Some z) e = go (least t h.processes) refl
-    where
-      t : Process → Bool
-      t = blocks_back M.conflict p z
-
-      go : (o : Option ℕ) → least t h.processes ≡ o → Came (waits h t everybody (undone M h z) o)
-      go None l = (turns.Undone z.at.activity.number, refl, takes_back ret (loose_some p.start h.log z e) (nobody_from M p t (BlocksBack M z) (back_tells M p z) h l))
-      go (Some n) l = (turns.Wait n, refl, waits_back ret (loose_some p.start h.log z e) (smallest_from M p t (BlocksBack M z) (back_tells M p z) h n l) (marked_from M p (λ q. t q && everybody q) (BlocksBack M z) (everybody_tells M p t (BlocksBack M z) (back_tells M p z)) h.processes))
+  came_backward ret on none (Some z) e = by_blockers M h Came (blocks_back M.conflict p z) everybody (undone M h z)
+      (λ l. (turns.Undone z.at.activity.number, refl, takes_back ret (loose_some p.start h.log z e) (nobody_from M p (blocks_back M.conflict p z) (BlocksBack M z) (back_tells M p z) h l)))
+      (λ n l. (turns.Wait n, refl, waits_back ret (loose_some p.start h.log z e) (smallest_from M p (blocks_back M.conflict p z) (BlocksBack M z) (back_tells M p z) h n l) (marked_from M p (λ q. blocks_back M.conflict p z q && everybody q) (BlocksBack M z) (everybody_tells M p (blocks_back M.conflict p z) (BlocksBack M z) (back_tells M p z)) h.processes)))
 
   came : (st : Standing) → p.standing ≡ st → Came (by_standing M h p st)
   came Running e = came_forward (subst Advances (sym e) tt) (next p.at) refl

@@ -5,7 +5,7 @@ use mathlib.Core.HLevel.{Unit-prop, ×_prop}
 use native.Mathlib.Bridge.{le_prop}
 use Rattle.serial.specs.Sorts.{Pairwise}
 use Rattle.std.specs.List.{AllByRecursion}
-use Rattle.std.proofs.lemmas.Bool.{eqb-true, eqb-false, true≢false, and_left, and_right, cases_Bool}
+use Rattle.std.proofs.lemmas.Bool.{cond_both, eqb-true, eqb-false, true≢false, and_left, and_right, cases_Bool}
 use Rattle.std.proofs.lemmas.Option.{none-some}
 use Rattle.std.proofs.lemmas.List.{length_push}
 use Rattle.activity.specs.declared.Activity.{Activity}
@@ -17,21 +17,24 @@ use Rattle.protocol.specs.declared.standing.Standing.TheVariants.{Running, Withd
 use Rattle.station.specs.Meaning.{Meaning}
 use Rattle.program.specs.Positions.{Position, alternative_of, into}
 use Rattle.protocol.specs.Ahead.{next, plain, crossing}
-use Rattle.protocol.specs.Log.{Split, owned, own, removed, returnable, pivoted, committed_under}
+use Rattle.protocol.specs.Log.{Split, owned, own, removed, returnable, committed_under}
 use Rattle.protocol.specs.Hall.{Process, Hall, fresh, find, without, changed, stand, move, with_processes, past_pivot, running, beginning, failed, standing_after, record_of}
 use Rattle.protocol.specs.StepFunction.{marked, performed}
-use Rattle.protocol.specs.Call.{Call}
-use Rattle.protocol.specs.CallFunction.{outcome}
+use Rattle.protocol.specs.Call.{Call, Event}
+use Rattle.protocol.specs.CallFunction.{outcome, ends, all_singles}
 use Rattle.protocol.specs.Room.{Bounded}
 use Rattle.protocol.specs.Held.{Held, Roomy}
 use Rattle.protocol.proofs.CallCases.{cases}
 use Rattle.protocol.proofs.Members.{In, in_push, in_more, in_map, none_any}
-use Rattle.protocol.proofs.Processes.{marked_keeps, from_map, to_map, from_changed, to_changed, find_without, from_without, from_push, to_push}
+use Rattle.protocol.proofs.Processes.{failed_pivot, marked_keeps, from_map, to_map, from_changed, to_changed, find_without, from_without, from_push, to_push}
 use Rattle.protocol.proofs.Sealed.{sealed}
 use Rattle.protocol.proofs.LastRecords.{none_own, NotOf, Last, LooseIs, loose_is}
-use Rattle.protocol.proofs.Rooms.{rooms_by, rooms_done, few}
+use Rattle.protocol.proofs.Rooms.{rooms_by, rooms_done, rooms_fresh, few}
 use Rattle.protocol.proofs.Counts.{NextRoom, next_room}
-use Rattle.protocol.proofs.Bounds.{bounded_outcome}
+use Rattle.protocol.proofs.Bounds.{bounded_fresh, bounded_outcome}
+use Rattle.protocol.proofs.Computed.{hall_after}
+use Rattle.protocol.proofs.Promise.{all_is}
+use Rattle.protocol.specs.Means.{Laws}
 
 pub record Owned {S : Type 0} (h : Hall S) : Type 0 where
   pub low : (r : Record) → In r h.log → r.start ≤ h.given
@@ -40,16 +43,10 @@ pub record Owned {S : Type 0} (h : Hall S) : Type 0 where
 
 found_low : (g n : ℕ) (ps : List Process) (q : Process) → AllByRecursion (λ x. x.start ≤ g) ps → find n ps ≡ Some q → n ≤ g
 found_low g n [] q all e = absurd (none-some _ e)
-found_low g n (p ∷ ps) q all e = go (eqb p.start n) refl e (found_low g n ps q all.1)
-  where
-    go : (b : Bool) → eqb p.start n ≡ b → cond b (Some p) (find n ps) ≡ Some q → (find n ps ≡ Some q → n ≤ g) → n ≤ g
-    go true t f on = omega (arith, eqb-true p.start n t, all.0)
-    go false t f on = on f
-
-failed_past : (st : Standing) → past_pivot (failed st) ≡ false → past_pivot st ≡ false
-failed_past Running e = refl
-failed_past (Withdrawing r) e = refl
-failed_past (PastPivot r) e = e
+found_low g n (p ∷ ps) q all e = cond_both (eqb p.start n) (Some p) (find n ps) (λ o. o ≡ Some q → n ≤ g)
+    (λ t f. omega (arith, eqb-true p.start n t, all.0))
+    (λ _ f. found_low g n ps q all.1 f)
+    e
 
 led_past : (b : Bool) (st : Standing) → past_pivot (standing_after b st) ≡ false → past_pivot st ≡ false
 led_past true st e = absurd (true≢false e)
@@ -60,11 +57,10 @@ led_plain true st e = absurd (true≢false e)
 led_plain false st e = refl
 
 sealed_open : (n c : ℕ) (r : Record) → (committed_under n (suc c) r).commit ≡ 0 → (r.commit ≡ 0) × (r.start ≡ n → ⊥)
-sealed_open n c r e = go (owned n r) refl e
-  where
-    go : (b : Bool) → eqb r.start n ≡ b → (cond b record { start = r.start; activity = r.activity; answer = r.answer; commit = suc c; pivot = r.pivot } r).commit ≡ 0 → (r.commit ≡ 0) × (r.start ≡ n → ⊥)
-    go true t f = absurd (omega arith)
-    go false t f = (f, eqb-false r.start n t)
+sealed_open n c r e = cond_both (owned n r) record { start = r.start; activity = r.activity; answer = r.answer; commit = suc c; pivot = r.pivot } r (λ x. x.commit ≡ 0 → (r.commit ≡ 0) × (r.start ≡ n → ⊥))
+    (λ t f. absurd (omega arith))
+    (λ t f. (f, eqb-false r.start n t))
+    e
 
 all_prop : (p : Process) (ps : List Process) → (x y : AllByRecursion (λ b. p.start < b.start) ps) → x ≡ y
 all_prop p [] = Unit-prop
@@ -119,7 +115,7 @@ module _ {S : Type 0} where
   }
 
   owned_done : (h : Hall S) → Owned h → AllByRecursion (λ x. x.start ≤ h.given) h.processes → (p : Process) → find p.start h.processes ≡ Some p → (pivot : Bool) (a : Activity) (to : Position) (d : Option (ℕ × S)) → Owned (performed h p pivot a to d).hall
-  owned_done h o starts p is pivot a to None = owned_changed h o p is (stand (failed p.standing)) (λ q. refl) (failed_past p.standing)
+  owned_done h o starts p is pivot a to None = owned_changed h o p is (stand (failed p.standing)) (λ q. refl) (λ e. sym (failed_pivot p.standing) ∙ e)
   owned_done h o starts p is pivot a to (Some d) =
       let new = record_of p pivot a d.0 in
       let f = move (standing_after pivot p.standing) to in
@@ -222,16 +218,20 @@ module _ {S : Type 0} where
 
   pub held_fresh : (s : S) → Held (fresh s)
   held_fresh s = record {
-    bounded = record { given = omega arith; active = omega arith; committed = omega arith; rising = tt; starts = tt };
-    rooms = record {
-      programs = (omega arith, (omega arith, (omega arith, (omega arith, (omega arith, (omega arith, (omega arith, (omega arith, tt))))))));
-      actives = λ n q e. absurd (none-some _ e);
-      budget = omega arith;
-    };
+    bounded = bounded_fresh s;
+    rooms = rooms_fresh s;
     low = λ r i. elim i [ ];
     active = λ r i. elim i [ ];
     unpivoted = λ n q e. absurd (none-some _ e);
   }
+
+  held_ends : (M : Meaning S) (h : Hall S) → Held h → (cs : List Call) → Held (ends M h cs)
+  held_ends M h d [] = d
+  held_ends M h d (c ∷ cs) = held_ends M (outcome M h c).hall (held_outcome M h d c) cs
+
+  -- so it is in every hall that the functions compute
+  pub always_held : (M : Meaning S) (s : S) (es : List Event) → Held (hall_after M s es)
+  always_held M s es = subst Held (sym (all_is M (fresh s) es)) (held_ends M (fresh s) (held_fresh s) (all_singles es))
 
   pub rising : (h : Hall S) → ∥ Held h ∥₁ → Pairwise (λ a b. a.start < b.start) h.processes
   rising h s = ∥∥₁_elim s (rising_prop h.processes) (λ d. d.bounded.rising)
