@@ -81,10 +81,10 @@ abbrev pub and_then : {X Y : Type 0} → Result (X × ℕ) Mistake → (X → �
 and_then (Ok (x, at)) f = f x at
 and_then (Err m) f = Err m
 
--- what a reader gave as a value and as the place where it stands after it, so told
-abbrev pub read_to : {X : Type 0} → Result X Mistake → ℕ → Result (X × ℕ) Mistake
-read_to (Ok x) at = Ok (x, at)
-read_to (Err m) at = Err m
+-- what was read, with the place after it
+abbrev pub with_place : {X : Type 0} → Result X Mistake → ℕ → Result (X × ℕ) Mistake
+with_place (Ok x) at = Ok (x, at)
+with_place (Err m) at = Err m
 
 -- the activity whose number and parameter stand from `at` on, and where they end
 unfoldable pub activity_at : List ℕ → ℕ → Result (Activity × ℕ) Mistake

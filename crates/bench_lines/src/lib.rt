@@ -8,7 +8,7 @@ ghost use Rattle.std.specs.Result.{result_ok, result_map_both};
 ghost use Rattle.std.specs.declared.num.TryFromIntError.{TryFromIntError};
 ghost use Rattle.std.proofs.Common.{arith, lit≤};
 ghost use Rattle.std.proofs.lemmas.Bool.Decides.{nat_tests};
-ghost use Rattle.bench_lines.specs.Lines.{is_blank, is_in_word, begin, past_word, word_at, within, digit_onto, digits, read_to, number_at, activity_at, asked_at, end_at, reading};
+ghost use Rattle.bench_lines.specs.Lines.{is_blank, is_in_word, begin, past_word, word_at, within, digit_onto, digits, with_place, number_at, activity_at, asked_at, end_at, reading};
 ghost use Rattle.std.proofs.Common.{arith, lit≤};
 ghost use Rattle.std.proofs.lemmas.Bool.Decides.{nat_tests};
 
@@ -57,6 +57,7 @@ trait Field: TryFrom<u32, Error = TryFromIntError> + Drop {
 
     const LIMIT: u32;
 
+    // A `u32` holds each of them.
     ghost narrow: { LIMIT ≤ 4294967295 };
 
     // A number up to the limit becomes the value that is it, and one above becomes none.
@@ -127,7 +128,7 @@ fn is_in_word(byte: u8) -> bool
     !is_blank(byte) && !matches!(byte, b'#' | b'\n')
 }
 
-// How many blanks stand at the front.
+// How many blanks stand at the front. This and `word_len` are not one function of a test: it would need a ghost test, picked at each call.
 fn blanks(bytes: &[u8]) -> usize
     ensures value { result ≡ prefix_len is_blank bytes.now }
     ensures bound { result ≤ length bytes.now }
@@ -172,9 +173,8 @@ impl<'a> Words<'a> {
         ensures ended { result ≡ None → self.new.at ≡ begin self.old.text.now self.old.at }
     {
         let before = self.at + blanks(&self.text[self.at..]);
-        let to = before + word_len(&self.text[before..]);
-        self.at = to;
-        let bytes = &self.text[before..to];
+        self.at = before + word_len(&self.text[before..]);
+        let bytes = &self.text[before..self.at];
         if bytes.is_empty() {
             None
         } else {
@@ -186,7 +186,7 @@ impl<'a> Words<'a> {
     #[tactic(auto, unfolding(crate::specs::Lines::number_at))]
     fn number<N: Field>(&mut self) -> Result<N, Mistake>
         ensures text { self.new.text.now ≡ self.old.text.now }
-        ensures value { read_to (result_map_both N.number (λ m. m) result) self.new.at ≡ number_at N.LIMIT self.old.text.now self.old.at }
+        ensures value { with_place (result_map_both N.number (λ m. m) result) self.new.at ≡ number_at N.LIMIT self.old.text.now self.old.at }
     {
         let Some(word) = self.word() else {
             return Err(Mistake {
@@ -204,7 +204,7 @@ impl<'a> Words<'a> {
     #[tactic(auto, unfolding(crate::specs::Lines::activity_at))]
     fn activity(&mut self) -> Result<Activity, Mistake>
         ensures text { self.new.text.now ≡ self.old.text.now }
-        ensures value { read_to result self.new.at ≡ activity_at self.old.text.now self.old.at }
+        ensures value { with_place result self.new.at ≡ activity_at self.old.text.now self.old.at }
     {
         let number = self.number()?;
         let parameter = self.number()?;
@@ -215,7 +215,7 @@ impl<'a> Words<'a> {
     #[tactic(auto, using(crate::proofs::FirstWords::first_words), unfolding(crate::specs::Lines::asked_at))]
     fn line(&mut self, first: Word<'_>) -> Result<Line, Mistake>
         ensures text { self.new.text.now ≡ self.old.text.now }
-        ensures value { read_to result self.new.at ≡ asked_at first.entry.before first.entry.bytes.now self.old.text.now self.old.at }
+        ensures value { with_place result self.new.at ≡ asked_at first.entry.before first.entry.bytes.now self.old.text.now self.old.at }
     {
         match first.bytes {
             b"perform" => Ok(Line::Perform(self.activity()?)),
