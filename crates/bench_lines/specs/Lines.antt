@@ -1,56 +1,46 @@
 -- What the lines of stationbench say.
-use Rattle.std.specs.Prelude.{ℕ, ◌+◌, ◌-◌, ◌*◌, Bool, cond, not, ◌&&◌, ◌||◌, List, [], ◌∷◌, take, drop, Some, None, Ok, Err, codes, Option, Result, ◌==◌, nat_le}
+use Rattle.std.specs.Prelude.{ℕ, ◌+◌, ◌-◌, ◌*◌, Bool, cond, not, ◌&&◌, ◌||◌, List, [], ◌∷◌, length, drop, Some, None, Ok, Err, codes, Option, Result, ◌==◌, nat_le}
+use Rattle.std.specs.List.{prefix_len, take_while}
 use Rattle.std.specs.Str.{bytes_eq}
 use Rattle.activity.specs.declared.Activity.{Activity}
 use Rattle.bench_lines.specs.declared.Line.{Line}
 use Rattle.bench_lines.specs.declared.Line.TheVariants.{Blank, Perform, TakeBack, Conflict, Kinds, State}
-use Rattle.bench_lines.specs.declared.Command.{Command}
-use Rattle.bench_lines.specs.declared.Command.TheVariants as command
-use Rattle.bench_lines.specs.declared.Class.{Class}
-use Rattle.bench_lines.specs.declared.Class.TheVariants.{Between, Within}
 use Rattle.bench_lines.specs.declared.Fault.{Fault}
 use Rattle.bench_lines.specs.declared.Fault.TheVariants.{Unknown, Missing, NoNumber, Extra}
 use Rattle.bench_lines.specs.declared.Mistake.{Mistake}
-use Rattle.bench_lines.specs.declared.Span.{Span}
 
 -- a space, a tab or a carriage return
-abbrev pub blank : ℕ → Bool
-blank b = b == 32 || (b == 9 || b == 13)
+abbrev pub is_blank : ℕ → Bool
+is_blank b = b == 32 || (b == 9 || b == 13)
 
--- the byte belongs between words, or to a word: a '#' and a newline do neither
-abbrev pub is_of : Class → ℕ → Bool
-is_of Between b = blank b
-is_of Within b = not (blank b) && (not (b == 35) && not (b == 10))
+-- a byte of a word: no blank, and neither a '#' nor a newline, which end the line
+abbrev pub is_in_word : ℕ → Bool
+is_in_word b = not (is_blank b) && (not (b == 35) && not (b == 10))
 
--- how many bytes at the front are of the class
-abbrev pub run_of : Class → List ℕ → ℕ
-run_of c [] = 0
-run_of c (b ∷ bs) = cond (is_of c b) (1 + run_of c bs) 0
+-- where the first word from `at` on begins or, where there is none, the line ends
+unfoldable pub begin : List ℕ → ℕ → ℕ
+begin bs at = at + prefix_len is_blank (drop at bs)
 
--- the first place from `at` on whose byte is not of the class
-unfoldable pub past : Class → List ℕ → ℕ → ℕ
-past c bs at = at + run_of c (drop at bs)
+-- the first place from `at` on after that word
+unfoldable pub past_word : List ℕ → ℕ → ℕ
+past_word bs at = begin bs at + prefix_len is_in_word (drop (begin bs at) bs)
 
--- the first word from `at` on
-abbrev pub word_at : List ℕ → ℕ → Span
-word_at bs at = record { from = past Between bs at; to = past Within bs (past Between bs at) }
+abbrev pub unless_empty : ℕ → List ℕ → Option (ℕ × List ℕ)
+unless_empty n w = cond (length w == 0) None (Some (n, w))
 
-abbrev pub text_of : List ℕ → Span → List ℕ
-text_of bs w = take (w.to - w.from) (drop w.from bs)
-
-abbrev pub command_of : List ℕ → Option Command
-command_of w =
-    cond (bytes_eq w (codes "perform")) (Some command.Perform)
-    (cond (bytes_eq w (codes "take-back")) (Some command.TakeBack)
-    (cond (bytes_eq w (codes "conflict")) (Some command.Conflict)
-    (cond (bytes_eq w (codes "kinds")) (Some command.Kinds) (cond (bytes_eq w (codes "state")) (Some command.State) None))))
+-- the first word from `at` on, with where it begins, if there is one
+unfoldable pub word_at : List ℕ → ℕ → Option (ℕ × List ℕ)
+word_at bs at = unless_empty (begin bs at) (take_while is_in_word (drop (begin bs at) bs))
 
 -- ---- numbers
 
+-- the number, within the limit
+abbrev pub within : ℕ → ℕ → Option ℕ
+within limit n = cond (nat_le n limit) (Some n) None
+
 -- the number with one more digit, within the limit
 abbrev pub digit_onto : ℕ → ℕ → ℕ → Option ℕ
-digit_onto limit n b =
-    cond (nat_le 48 b && nat_le b 57) (cond (nat_le (n * 10 + (b - 48)) limit) (Some (n * 10 + (b - 48))) None) None
+digit_onto limit n b = cond (nat_le 48 b && nat_le b 57) (within limit (n * 10 + (b - 48))) None
 
 abbrev pub then_digits : Option ℕ → (ℕ → Option ℕ) → Option ℕ
 then_digits None f = None
@@ -64,61 +54,69 @@ digits limit (b ∷ bs) n = then_digits (digit_onto limit n b) (digits limit bs)
 abbrev pub mistake : {X : Type 0} → ℕ → Fault → Result X Mistake
 mistake n f = Err (record { before = n; fault = f })
 
-abbrev pub valued : ℕ → Span → Option ℕ → Result (ℕ × ℕ) Mistake
-valued limit w None = mistake w.from (NoNumber limit)
-valued limit w (Some n) = Ok (n, w.to)
+abbrev pub valued : ℕ → ℕ → ℕ → Option ℕ → Result (ℕ × ℕ) Mistake
+valued limit n at None = mistake n (NoNumber limit)
+valued limit n at (Some x) = Ok (x, at)
 
-abbrev pub number_in : ℕ → List ℕ → Span → Result (ℕ × ℕ) Mistake
-number_in limit bs w =
-    cond (w.from == w.to) (mistake w.from (Missing limit)) (valued limit w (digits limit (text_of bs w) 0))
+abbrev pub number_in : ℕ → List ℕ → ℕ → Option (ℕ × List ℕ) → Result (ℕ × ℕ) Mistake
+number_in limit bs at None = mistake (begin bs at) (Missing limit)
+number_in limit bs at (Some (n, w)) = valued limit n (past_word bs at) (digits limit w 0)
 
 -- the number from `at` on, and where it ends
 unfoldable pub number_at : ℕ → List ℕ → ℕ → Result (ℕ × ℕ) Mistake
-number_at limit bs at = number_in limit bs (word_at bs at)
+number_at limit bs at = number_in limit bs at (word_at bs at)
 
 -- ---- lines
 
-abbrev pub end_in : Span → Line → Result Line Mistake
-end_in w l = cond (w.from == w.to) (Ok l) (mistake w.from Extra)
+abbrev pub end_in : Option (ℕ × List ℕ) → Line → Result Line Mistake
+end_in None l = Ok l
+end_in (Some (n, w)) l = mistake n Extra
 
 -- the line, if nothing follows
 unfoldable pub end_at : List ℕ → ℕ → Line → Result Line Mistake
 end_at bs at l = end_in (word_at bs at) l
 
--- goes on with the number that was read, and the place after it
-abbrev pub and_then : Result (ℕ × ℕ) Mistake → (ℕ → ℕ → Result Line Mistake) → Result Line Mistake
-and_then (Ok (n, at)) f = f n at
+-- goes on with what was read, and the place after it
+abbrev pub and_then : {X Y : Type 0} → Result (X × ℕ) Mistake → (X → ℕ → Result Y Mistake) → Result Y Mistake
+and_then (Ok (x, at)) f = f x at
 and_then (Err m) f = Err m
 
-abbrev pub asked : ℕ → ℕ → Activity
-asked n p = record { number = n; parameter = p }
+-- what was read, with the place after it
+abbrev pub with_place : {X : Type 0} → Result X Mistake → ℕ → Result (X × ℕ) Mistake
+with_place (Ok x) at = Ok (x, at)
+with_place (Err m) at = Err m
 
-abbrev pub performing : List ℕ → ℕ → Result Line Mistake
-performing bs at =
-    and_then (number_at 255 bs at) (λ n at. and_then (number_at 65535 bs at) (λ p at. end_at bs at (Perform (asked n p))))
+-- the activity whose number and parameter stand from `at` on, and where they end
+unfoldable pub activity_at : List ℕ → ℕ → Result (Activity × ℕ) Mistake
+activity_at bs at =
+    and_then (number_at 255 bs at) (λ n at. and_then (number_at 65535 bs at) (λ p at. Ok (record { number = n; parameter = p }, at)))
 
-abbrev pub taking_back : List ℕ → ℕ → Result Line Mistake
+abbrev pub performing : List ℕ → ℕ → Result (Line × ℕ) Mistake
+performing bs at = and_then (activity_at bs at) (λ a at. Ok (Perform a, at))
+
+abbrev pub taking_back : List ℕ → ℕ → Result (Line × ℕ) Mistake
 taking_back bs at =
-    and_then (number_at 255 bs at)
-    (λ n at. and_then (number_at 65535 bs at) (λ p at. and_then (number_at 4294967295 bs at) (λ x at. end_at bs at (TakeBack (asked n p) x))))
+    and_then (activity_at bs at) (λ a at. and_then (number_at 4294967295 bs at) (λ x at. Ok (TakeBack a x, at)))
 
-abbrev pub conflicting : List ℕ → ℕ → Result Line Mistake
+abbrev pub conflicting : List ℕ → ℕ → Result (Line × ℕ) Mistake
 conflicting bs at =
-    and_then (number_at 255 bs at) (λ a at. and_then (number_at 255 bs at) (λ b at. end_at bs at (Conflict a b)))
+    and_then (number_at 255 bs at) (λ a at. and_then (number_at 255 bs at) (λ b at. Ok (Conflict a b, at)))
 
-abbrev pub of_kinds : List ℕ → ℕ → Result Line Mistake
-of_kinds bs at = and_then (number_at 255 bs at) (λ n at. end_at bs at (Kinds n))
+abbrev pub of_kinds : List ℕ → ℕ → Result (Line × ℕ) Mistake
+of_kinds bs at = and_then (number_at 255 bs at) (λ n at. Ok (Kinds n, at))
 
-abbrev pub by_command : Option Command → List ℕ → Span → Result Line Mistake
-by_command None bs w = mistake w.from Unknown
-by_command (Some command.Perform) bs w = performing bs w.to
-by_command (Some command.TakeBack) bs w = taking_back bs w.to
-by_command (Some command.Conflict) bs w = conflicting bs w.to
-by_command (Some command.Kinds) bs w = of_kinds bs w.to
-by_command (Some command.State) bs w = end_at bs w.to State
+-- the line whose first word is w, which begins at n, with its numbers from `at` on, and where they end
+unfoldable pub asked_at : ℕ → List ℕ → List ℕ → ℕ → Result (Line × ℕ) Mistake
+asked_at n w bs at =
+    cond (bytes_eq w (codes "perform")) (performing bs at)
+    (cond (bytes_eq w (codes "take-back")) (taking_back bs at)
+    (cond (bytes_eq w (codes "conflict")) (conflicting bs at)
+    (cond (bytes_eq w (codes "kinds")) (of_kinds bs at)
+    (cond (bytes_eq w (codes "state")) (Ok (State, at)) (mistake n Unknown)))))
 
-abbrev pub reading_in : List ℕ → Span → Result Line Mistake
-reading_in bs w = cond (w.from == w.to) (Ok Blank) (by_command (command_of (text_of bs w)) bs w)
+abbrev pub reading_in : List ℕ → Option (ℕ × List ℕ) → Result Line Mistake
+reading_in bs None = Ok Blank
+reading_in bs (Some (n, w)) = and_then (asked_at n w bs (past_word bs 0)) (λ l at. end_at bs at l)
 
 -- what a line says: a blank one nothing, any other what its first word and the numbers after it name
 abbrev pub reading : List ℕ → Result Line Mistake

@@ -1,15 +1,24 @@
 // The lines that stationbench reads: their words, their numbers, and what is wrong with a bad one.
 #![tactic(auto)]
 
-ghost use Rattle.std.specs.Prelude.{◌≡◌, ◌^◌, ◌<◌, ◌≤◌, length, IfSome, IfOk};
-ghost use Rattle.std.specs.Str.{bytes_eq};
-ghost use Rattle.bench_lines.specs.Lines.{is_of, past, word_at, command_of, digit_onto, digits, number_at, end_at, performing, taking_back, conflicting, of_kinds, reading};
+ghost use Rattle.std.specs.Prelude.{◌≡◌, ℕ, ◌≤◌, length, Result, None};
+ghost use Rattle.std.specs.List.{prefix_len};
+ghost use Rattle.std.specs.Option.{option_map};
+ghost use Rattle.std.specs.Result.{result_ok, result_map_both};
+ghost use Rattle.std.specs.declared.num.TryFromIntError.{TryFromIntError};
+ghost use Rattle.std.proofs.Common.{arith, lit≤};
+ghost use Rattle.std.proofs.lemmas.Bool.Decides.{nat_tests};
+ghost use Rattle.bench_lines.specs.Lines.{is_blank, is_in_word, begin, past_word, word_at, within, digit_onto, digits, with_place, number_at, activity_at, asked_at, end_at, reading};
+ghost use Rattle.std.proofs.Common.{arith, lit≤};
+ghost use Rattle.std.proofs.lemmas.Bool.Decides.{nat_tests};
 
 use activity::Activity;
+use std::error::Error;
 use std::fmt;
+use std::num::TryFromIntError;
 
 // What a line asks for.
-#[derive(Clone, Copy)]
+#[derive(Clone, Copy, Debug, PartialEq, Eq)]
 pub enum Line {
     // nothing: it is blank, or a comment
     Blank,
@@ -21,7 +30,7 @@ pub enum Line {
 }
 
 // Why a line is bad.
-#[derive(Clone, Copy)]
+#[derive(Clone, Copy, Debug, PartialEq, Eq)]
 pub enum Fault {
     // no line begins with this word
     Unknown,
@@ -34,236 +43,219 @@ pub enum Fault {
 }
 
 // A bad line: what is wrong, and how many bytes stand before that.
-#[derive(Clone, Copy)]
+#[derive(Clone, Copy, Debug, PartialEq, Eq)]
 pub struct Mistake {
     pub before: usize,
     pub fault: Fault,
 }
 
-// The first words of lines.
+// A number of a line, by its type: up to where it goes, and which number each value is.
+trait Field: TryFrom<u32, Error = TryFromIntError> + Drop {
+    ghost number: { Self → ℕ };
+
+    ghost LIMIT: { ℕ };
+
+    const LIMIT: u32;
+
+    // A `u32` holds each of them.
+    ghost narrow: { LIMIT ≤ 4294967295 };
+
+    // A number up to the limit becomes the value that is it, and one above becomes none.
+    ghost keeps: { (n : ℕ) (r : Result Self TryFromIntError) → Self.TryFrom.try_from_gives n r → option_map number (result_ok r) ≡ within LIMIT n };
+}
+
+impl Field for u8 {
+    ghost number = { λ n. n };
+
+    ghost LIMIT = { 255 };
+
+    ghost narrow = { lit≤ tt };
+
+    const LIMIT: u32 = u8::MAX as u32;
+
+    ghost keeps = { λ n r h. Prim.grind (arith, nat_tests) };
+}
+
+impl Field for u16 {
+    ghost number = { λ n. n };
+
+    ghost LIMIT = { 65535 };
+
+    ghost narrow = { lit≤ tt };
+
+    const LIMIT: u32 = u16::MAX as u32;
+
+    ghost keeps = { λ n r h. Prim.grind (arith, nat_tests) };
+}
+
+impl Field for u32 {
+    ghost number = { λ n. n };
+
+    ghost LIMIT = { 4294967295 };
+
+    ghost narrow = { lit≤ tt };
+
+    const LIMIT: u32 = u32::MAX;
+
+    ghost keeps = { λ n r h. Prim.grind (arith, nat_tests) };
+}
+
+// A word of a line, and how many bytes stand before it.
 #[derive(Clone, Copy)]
-pub enum Command {
-    Perform,
-    TakeBack,
-    Conflict,
-    Kinds,
-    State,
+struct Word<'a> {
+    before: usize,
+    bytes: &'a [u8],
 }
 
-// Bytes between words, and bytes of words. A '#' and a newline are neither: they end the line.
-#[derive(Clone, Copy)]
-pub enum Class {
-    Between,
-    Within,
+// The words of a line from a place on.
+#[derive(Drop)]
+struct Words<'a> {
+    text: &'a [u8],
+    at: usize,
+    ghost inside: { at ≤ length text.now },
 }
 
-// Where a word stands: from a place on, up to another. It is empty where there is none.
-#[derive(Clone, Copy)]
-pub struct Span {
-    from: usize,
-    to: usize,
-}
-
-const NUMBERS: u32 = 255;
-
-const PARAMETERS: u32 = 65535;
-
-const ANSWERS: u32 = 4294967295;
-
-impl Class {
-    fn holds(self, byte: u8) -> bool
-        ensures { result ≡ is_of self byte }
-    {
-        let blank = byte == 32 || byte == 9 || byte == 13;
-        match self {
-            Class::Between => blank,
-            Class::Within => !blank && byte != 35 && byte != 10,
-        }
-    }
-}
-
-// The first place from `start` on whose byte is not of the class.
-fn run(text: &[u8], start: usize, class: Class) -> usize
-    requires { start ≤ length text.now }
-    ensures value { result ≡ past class text.now start }
-    ensures low { start ≤ result }
-    ensures high { result ≤ length text.now }
+fn is_blank(byte: u8) -> bool
+    ensures { result ≡ is_blank byte }
 {
-    let mut i = start;
-    while i < text.len() && class.holds(text[i]) {
-        i += 1;
-    }
-    i
+    matches!(byte, b' ' | b'\t' | b'\r')
 }
 
-// The first word from `at` on.
-fn next_word(text: &[u8], at: usize) -> Span
-    requires { at ≤ length text.now }
-    ensures value { result ≡ word_at text.now at }
-    ensures low { result.from ≤ result.to }
-    ensures high { result.to ≤ length text.now }
+// A '#' and a newline are no blanks and in no word: they end the line.
+fn is_in_word(byte: u8) -> bool
+    ensures { result ≡ is_in_word byte }
 {
-    let from = run(text, at, Class::Between);
-    let to = run(text, from, Class::Within);
-    Span { from, to }
+    !is_blank(byte) && !matches!(byte, b'#' | b'\n')
 }
 
-fn spells(word: &[u8], name: &[u8]) -> bool
-    ensures { result ≡ bytes_eq word.now name.now }
+// How many blanks stand at the front. This and `word_len` are not one function of a test: it would need a ghost test, picked at each call.
+fn blanks(bytes: &[u8]) -> usize
+    ensures value { result ≡ prefix_len is_blank bytes.now }
+    ensures bound { result ≤ length bytes.now }
 {
-    word == name
+    bytes.iter().take_while(|b| is_blank(**b)).count()
 }
 
-fn first_word(word: &[u8]) -> Option<Command>
-    ensures { result ≡ command_of word.now }
+// How long the word at the front is.
+fn word_len(bytes: &[u8]) -> usize
+    ensures value { result ≡ prefix_len is_in_word bytes.now }
+    ensures bound { result ≤ length bytes.now }
 {
-    if spells(word, b"perform") {
-        Some(Command::Perform)
-    } else if spells(word, b"take-back") {
-        Some(Command::TakeBack)
-    } else if spells(word, b"conflict") {
-        Some(Command::Conflict)
-    } else if spells(word, b"kinds") {
-        Some(Command::Kinds)
-    } else if spells(word, b"state") {
-        Some(Command::State)
-    } else {
-        None
-    }
+    bytes.iter().take_while(|b| is_in_word(**b)).count()
 }
 
-// The number with one more digit, if the byte is one and the limit is kept.
-fn onto(value: u32, byte: u8, limit: u32) -> Option<u32>
-    ensures value { result ≡ digit_onto limit value byte }
-    ensures bound { IfSome result (λ n. n ≤ limit) }
+// The number with one more digit, if the byte is one and a `u32` holds it.
+fn onto(value: u32, byte: u8) -> Option<u32>
+    ensures { result ≡ digit_onto 4294967295 value byte }
 {
-    if byte < 48 || byte > 57 {
-        return None;
-    }
-    let next = u64::from(value) * 10 + u64::from(byte - 48);
-    if next <= u64::from(limit) {
-        Some(next as u32)
-    } else {
-        None
-    }
+    let digit = char::from(byte).to_digit(10)?;
+    value.checked_mul(10)?.checked_add(digit)
 }
 
-// The number that the word writes in decimal, if it is one and keeps the limit.
-fn decimal(word: &[u8], limit: u32) -> Option<u32>
-    ensures value { result ≡ digits limit word.now 0 }
-    ensures bound { IfSome result (λ n. n ≤ limit) }
+// The number that the word writes in decimal, if it is one and its type holds it.
+fn decimal<N: Field>(word: &[u8]) -> Option<N>
+    ensures { option_map N.number result ≡ digits N.LIMIT word.now 0 }
 {
     let mut value = 0;
     for b in word {
-        value = onto(value, *b, limit)?;
+        value = onto(value, *b)?;
     }
-    Some(value)
+    N::try_from(value).ok()
 }
 
-// The number that stands from `at` on, and where its word ends.
-fn number(text: &[u8], at: usize, limit: u32) -> Result<(u32, usize), Mistake>
-    requires { at ≤ length text.now }
-    ensures value { result ≡ number_at limit text.now at }
-    ensures bounds { IfOk result (λ p. (p.0 ≤ limit) × (p.1 ≤ length text.now)) }
-{
-    let word = next_word(text, at);
-    if word.from == word.to {
-        return Err(Mistake {
-            before: word.from,
-            fault: Fault::Missing(limit),
-        });
+impl<'a> Words<'a> {
+    // The next word. Where there is none, the reader then stands where the line ends.
+    #[tactic(auto, unfolding(crate::specs::Lines::begin, crate::specs::Lines::past_word, crate::specs::Lines::word_at))]
+    fn word(&mut self) -> Option<Word<'a>>
+        ensures text { self.new.text.now ≡ self.old.text.now }
+        ensures at { self.new.at ≡ past_word self.old.text.now self.old.at }
+        ensures word { option_map (λ (w : Word). (w.before, w.bytes.now)) result ≡ word_at self.old.text.now self.old.at }
+        ensures ended { result ≡ None → self.new.at ≡ begin self.old.text.now self.old.at }
+    {
+        let before = self.at + blanks(&self.text[self.at..]);
+        self.at = before + word_len(&self.text[before..]);
+        let bytes = &self.text[before..self.at];
+        if bytes.is_empty() {
+            None
+        } else {
+            Some(Word { before, bytes })
+        }
     }
-    let from = word.from;
-    let to = word.to;
-    match decimal(&text[from..to], limit) {
-        Some(value) => Ok((value, word.to)),
-        None => Err(Mistake {
-            before: word.from,
-            fault: Fault::NoNumber(limit),
-        }),
-    }
-}
 
-// The line, if nothing stands from `at` on.
-fn ended(text: &[u8], at: usize, line: Line) -> Result<Line, Mistake>
-    requires { at ≤ length text.now }
-    ensures { result ≡ end_at text.now at line }
-{
-    let word = next_word(text, at);
-    if word.from == word.to {
-        Ok(line)
-    } else {
-        Err(Mistake {
-            before: word.from,
-            fault: Fault::Extra,
+    // The number that stands next.
+    #[tactic(auto, unfolding(crate::specs::Lines::number_at))]
+    fn number<N: Field>(&mut self) -> Result<N, Mistake>
+        ensures text { self.new.text.now ≡ self.old.text.now }
+        ensures value { with_place (result_map_both N.number (λ m. m) result) self.new.at ≡ number_at N.LIMIT self.old.text.now self.old.at }
+    {
+        let Some(word) = self.word() else {
+            return Err(Mistake {
+                before: self.at,
+                fault: Fault::Missing(N::LIMIT),
+            });
+        };
+        decimal(word.bytes).ok_or(Mistake {
+            before: word.before,
+            fault: Fault::NoNumber(N::LIMIT),
         })
     }
-}
 
-fn perform(text: &[u8], at: usize) -> Result<Line, Mistake>
-    requires { at ≤ length text.now }
-    ensures { result ≡ performing text.now at }
-{
-    let (n, at) = number(text, at, NUMBERS)?;
-    let (p, at) = number(text, at, PARAMETERS)?;
-    let activity = Activity {
-        number: n as u8,
-        parameter: p as u16,
-    };
-    ended(text, at, Line::Perform(activity))
-}
+    // The activity whose number and parameter stand next.
+    #[tactic(auto, unfolding(crate::specs::Lines::activity_at))]
+    fn activity(&mut self) -> Result<Activity, Mistake>
+        ensures text { self.new.text.now ≡ self.old.text.now }
+        ensures value { with_place result self.new.at ≡ activity_at self.old.text.now self.old.at }
+    {
+        let number = self.number()?;
+        let parameter = self.number()?;
+        Ok(Activity { number, parameter })
+    }
 
-fn take_back(text: &[u8], at: usize) -> Result<Line, Mistake>
-    requires { at ≤ length text.now }
-    ensures { result ≡ taking_back text.now at }
-{
-    let (n, at) = number(text, at, NUMBERS)?;
-    let (p, at) = number(text, at, PARAMETERS)?;
-    let (answer, at) = number(text, at, ANSWERS)?;
-    let activity = Activity {
-        number: n as u8,
-        parameter: p as u16,
-    };
-    ended(text, at, Line::TakeBack(activity, answer))
-}
+    // What the line with this first word asks for, by the numbers that it needs.
+    #[tactic(auto, using(crate::proofs::FirstWords::first_words), unfolding(crate::specs::Lines::asked_at))]
+    fn line(&mut self, first: Word<'_>) -> Result<Line, Mistake>
+        ensures text { self.new.text.now ≡ self.old.text.now }
+        ensures value { with_place result self.new.at ≡ asked_at first.entry.before first.entry.bytes.now self.old.text.now self.old.at }
+    {
+        match first.bytes {
+            b"perform" => Ok(Line::Perform(self.activity()?)),
+            b"take-back" => Ok(Line::TakeBack(self.activity()?, self.number()?)),
+            b"conflict" => Ok(Line::Conflict(self.number()?, self.number()?)),
+            b"kinds" => Ok(Line::Kinds(self.number()?)),
+            b"state" => Ok(Line::State),
+            _ => Err(Mistake {
+                before: first.before,
+                fault: Fault::Unknown,
+            }),
+        }
+    }
 
-fn conflict(text: &[u8], at: usize) -> Result<Line, Mistake>
-    requires { at ≤ length text.now }
-    ensures { result ≡ conflicting text.now at }
-{
-    let (a, at) = number(text, at, NUMBERS)?;
-    let (b, at) = number(text, at, NUMBERS)?;
-    ended(text, at, Line::Conflict(a as u8, b as u8))
-}
-
-fn kinds(text: &[u8], at: usize) -> Result<Line, Mistake>
-    requires { at ≤ length text.now }
-    ensures { result ≡ of_kinds text.now at }
-{
-    let (n, at) = number(text, at, NUMBERS)?;
-    ended(text, at, Line::Kinds(n as u8))
+    // The line that was read, if nothing follows.
+    #[tactic(auto, unfolding(crate::specs::Lines::end_at))]
+    fn end(mut self, line: Line) -> Result<Line, Mistake>
+        ensures { result ≡ end_at self.entry.text.now self.entry.at line }
+    {
+        match self.word() {
+            Some(word) => Err(Mistake {
+                before: word.before,
+                fault: Fault::Extra,
+            }),
+            None => Ok(line),
+        }
+    }
 }
 
 // What the line asks for, or the first thing that is wrong with it.
 pub fn read(text: &[u8]) -> Result<Line, Mistake>
     ensures { result ≡ reading text.now }
 {
-    let word = next_word(text, 0);
-    if word.from == word.to {
-        return Ok(Line::Blank);
-    }
-    let from = word.from;
-    let to = word.to;
-    match first_word(&text[from..to]) {
-        Some(Command::Perform) => perform(text, word.to),
-        Some(Command::TakeBack) => take_back(text, word.to),
-        Some(Command::Conflict) => conflict(text, word.to),
-        Some(Command::Kinds) => kinds(text, word.to),
-        Some(Command::State) => ended(text, word.to, Line::State),
-        None => Err(Mistake {
-            before: word.from,
-            fault: Fault::Unknown,
-        }),
+    let mut words = Words { text, at: 0 };
+    match words.word() {
+        Some(first) => {
+            let line = words.line(first)?;
+            words.end(line)
+        }
+        None => Ok(Line::Blank),
     }
 }
 
@@ -271,14 +263,10 @@ impl fmt::Display for Line {
     fn fmt<W: fmt::Write>(&self, f: &mut fmt::Formatter<W>) -> fmt::Result {
         match self {
             Line::Blank => Ok(()),
-            Line::Perform(activity) => {
-                let number = activity.number;
-                let parameter = activity.parameter;
+            Line::Perform(Activity { number, parameter }) => {
                 write!(f, "perform {number} {parameter}")
             }
-            Line::TakeBack(activity, answer) => {
-                let number = activity.number;
-                let parameter = activity.parameter;
+            Line::TakeBack(Activity { number, parameter }, answer) => {
                 write!(f, "take-back {number} {parameter} {answer}")
             }
             Line::Conflict(a, b) => write!(f, "conflict {a} {b}"),
@@ -298,3 +286,13 @@ impl fmt::Display for Fault {
         }
     }
 }
+
+impl fmt::Display for Mistake {
+    fn fmt<W: fmt::Write>(&self, f: &mut fmt::Formatter<W>) -> fmt::Result {
+        let column = self.before.saturating_add(1);
+        let fault = self.fault;
+        write!(f, "column {column}: {fault}")
+    }
+}
+
+impl Error for Mistake {}

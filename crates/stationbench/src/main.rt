@@ -15,7 +15,7 @@ use std::{env, io};
 mod outcome;
 mod shown;
 
-use outcome::Outcome;
+use outcome::{Kinds, Outcome};
 
 // The rig's station: Lanes by tags, and the Register.
 type Rig = Pair<Renumbering<Lanes>, Register>;
@@ -39,51 +39,39 @@ fn work<S: Station>(subject: &mut S, line: Line) -> Outcome
     match line {
         Line::Blank => Outcome::Nothing,
         Line::State => Outcome::State,
-        Line::Perform(activity) => match subject.perform(activity) {
-            Some(answer) => Outcome::Answer(answer),
-            None => Outcome::NotPossible,
-        },
+        Line::Perform(activity) => Outcome::Performed(subject.perform(activity)),
         Line::TakeBack(activity, answer) => {
             subject.take_back(activity, answer);
             Outcome::TakenBack
         }
         Line::Conflict(a, b) => Outcome::Conflict(subject.conflict(a, b)),
         Line::Kinds(number) => {
-            if subject.exists(number) {
-                Outcome::Kinds(subject.compensatable(number), subject.retriable(number))
-            } else {
-                Outcome::NoActivity
-            }
+            let kinds = Kinds {
+                compensatable: subject.compensatable(number),
+                retriable: subject.retriable(number),
+            };
+            Outcome::Kinds(subject.exists(number).then_some(kinds))
         }
     }
 }
 
 // Prints what a line gave, or what is wrong with it.
-fn answer(rt: &HostRuntime, rig: &mut Rig, place: u64, text: &[u8]) -> io::Result<()> {
+fn answer(rt: &impl Print, rig: &mut Rig, place: u64, text: &[u8]) -> io::Result<()> {
     match read(text) {
         Ok(line) => match work(rig, line) {
             Outcome::Nothing => Ok(()),
             Outcome::State => shown::state(rt, rig.first().inner(), rig.second()),
             outcome => println!(rt; "{line}: {outcome}"),
         },
-        Err(mistake) => {
-            let column = mistake.before.saturating_add(1);
-            let fault = mistake.fault;
-            println!(rt; "line {place}, column {column}: {fault}")
-        }
+        Err(mistake) => println!(rt; "line {place}, {mistake}"),
     }
 }
 
-fn run(rt: &HostRuntime) -> io::Result<()> {
+fn run(rt: &(impl Print + Input + Alloc)) -> io::Result<()> {
     let mut rig = rig();
-    let mut input = BufReader::new(rt.alloc(), rt.stdin())?;
-    let mut text = Vec::new(rt.alloc());
-    for place in 1..u64::MAX {
-        text.clear();
-        if input.read_until(10, &mut text)? == 0 {
-            break;
-        }
-        answer(rt, &mut rig, place, text.as_slice())?;
+    let input = BufReader::new(rt.alloc(), rt.reader())?;
+    for (place, text) in (1..u64::MAX).zip(input.split(rt.alloc(), b'\n')) {
+        answer(rt, &mut rig, place, text?.as_slice())?;
     }
     Ok(())
 }

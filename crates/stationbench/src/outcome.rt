@@ -1,27 +1,23 @@
 // What a line gave.
 use std::fmt;
 
-#[derive(Clone, Copy)]
+#[derive(Clone, Copy, Debug, PartialEq, Eq)]
 pub enum Outcome {
     Nothing,
     State,
-    Answer(u32),
-    NotPossible,
+    // the answer, or none where it was not possible
+    Performed(Option<u32>),
     TakenBack,
     Conflict(bool),
-    // whether it is compensatable, and whether it is retriable
-    Kinds(bool, bool),
-    NoActivity,
+    // of which kinds it is, or none where there is no such activity
+    Kinds(Option<Kinds>),
 }
 
-// The kinds of an activity in words.
-fn kinds(compensatable: bool, retriable: bool) -> &'static str {
-    match (compensatable, retriable) {
-        (true, true) => "compensatable and retriable",
-        (true, false) => "compensatable, not retriable",
-        (false, true) => "retriable, not compensatable",
-        (false, false) => "neither compensatable nor retriable",
-    }
+// Of which kinds an activity is.
+#[derive(Clone, Copy, Debug, PartialEq, Eq)]
+pub struct Kinds {
+    pub compensatable: bool,
+    pub retriable: bool,
 }
 
 impl fmt::Display for Outcome {
@@ -29,16 +25,24 @@ impl fmt::Display for Outcome {
         match self {
             Outcome::Nothing => Ok(()),
             Outcome::State => write!(f, "the state follows"),
-            Outcome::Answer(answer) => write!(f, "performed, with the answer {answer}"),
-            Outcome::NotPossible => write!(f, "not possible"),
+            Outcome::Performed(Some(answer)) => write!(f, "performed, with the answer {answer}"),
+            Outcome::Performed(None) => write!(f, "not possible"),
             Outcome::TakenBack => write!(f, "taken back"),
             Outcome::Conflict(true) => write!(f, "they conflict"),
             Outcome::Conflict(false) => write!(f, "no conflict"),
-            Outcome::Kinds(compensatable, retriable) => {
-                let words = kinds(*compensatable, *retriable);
-                write!(f, "{words}")
-            }
-            Outcome::NoActivity => write!(f, "there is no such activity"),
+            Outcome::Kinds(Some(kinds)) => write!(f, "{kinds}"),
+            Outcome::Kinds(None) => write!(f, "there is no such activity"),
         }
+    }
+}
+
+impl fmt::Display for Kinds {
+    fn fmt<W: fmt::Write>(&self, f: &mut fmt::Formatter<W>) -> fmt::Result {
+        f.write_str(match (self.compensatable, self.retriable) {
+            (true, true) => "compensatable and retriable",
+            (true, false) => "compensatable, not retriable",
+            (false, true) => "retriable, not compensatable",
+            (false, false) => "neither compensatable nor retriable",
+        })
     }
 }

@@ -4,6 +4,8 @@ ghost use Rattle.std.specs.Prelude.{◌≡◌, [], if◌then◌else◌};
 use baggage::{Lanes, Register};
 use std::io;
 
+const LANES: u8 = 16;
+
 // The tag of lane 0.
 const FIRST_TAG: u16 = 101;
 
@@ -15,7 +17,7 @@ fn mark(set: bool, word: &'static str) -> &'static str
 }
 
 // Prints a lane unless it is empty and not flagged, and says whether it did.
-fn lane(rt: &HostRuntime, lanes: &Lanes, lane: u8) -> io::Result<bool> {
+fn lane(rt: &impl Print, lanes: &Lanes, lane: u8) -> io::Result<bool> {
     let count = lanes.count(lane).unwrap_or(0);
     let flag = lanes.flag(lane).unwrap_or(false);
     if count == 0 && !flag {
@@ -28,7 +30,7 @@ fn lane(rt: &HostRuntime, lanes: &Lanes, lane: u8) -> io::Result<bool> {
 }
 
 // Prints a bag unless it is absent and unmarked, and says whether it did.
-fn bag(rt: &HostRuntime, register: &Register, bag: u8) -> io::Result<bool> {
+fn bag(rt: &impl Print, register: &Register, bag: u8) -> io::Result<bool> {
     let sealed = register.sealed(bag);
     let reported = register.reported(bag);
     let marks = mark(sealed, ", sealed");
@@ -47,14 +49,14 @@ fn bag(rt: &HostRuntime, register: &Register, bag: u8) -> io::Result<bool> {
 }
 
 // Prints each lane and each bag that is not in its first state.
-pub fn state(rt: &HostRuntime, lanes: &Lanes, register: &Register) -> io::Result<()> {
+pub fn state(rt: &impl Print, lanes: &Lanes, register: &Register) -> io::Result<()> {
     println!(rt; "state:")?;
     let mut any = false;
-    for i in 0..16u8 {
-        any = lane(rt, lanes, i)? || any;
+    for i in 0..LANES {
+        any |= lane(rt, lanes, i)?;
     }
-    for i in 0..256u16 {
-        any = bag(rt, register, i as u8)? || any;
+    for i in 0..=u8::MAX {
+        any |= bag(rt, register, i)?;
     }
     if any {
         Ok(())
@@ -63,7 +65,7 @@ pub fn state(rt: &HostRuntime, lanes: &Lanes, register: &Register) -> io::Result
     }
 }
 
-pub fn help(rt: &HostRuntime) -> io::Result<()> {
+pub fn help(rt: &impl Print) -> io::Result<()> {
     println!(rt;
         "stationbench works the rig's station: 0 to 4 are the activities of Lanes, whose parameters are the"
     )?;

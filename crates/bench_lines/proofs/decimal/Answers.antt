@@ -1,22 +1,19 @@
-use Rattle.std.proofs.Common.{sym, ◌∙◌, arith}
-use Rattle.bench_lines.proofs.Loops.{digits_more, digits_stop, digits_end}
+use Rattle.std.proofs.Common.{◌≡◌, Some, option_and_then, sym, ap, ◌∙◌, arith}
+use Rattle.std.proofs.lemmas.List.{drop_all}
+use Rattle.std.proofs.lemmas.Grind.{common_steps}
+use Rattle.bench_lines.specs.Lines.{within, digits}
+use Rattle.bench_lines.proofs.Numbers.{digits_narrow}
 use Rattle.bench_lines.proofs.decimal.Goals as goal
 
 pub returns-in_err-value : goal.returns-in_err-value
-returns-in_err-value c = rw c.from_residual.ensures (record {
-  value = sym (digits_stop c.args.limit c.args.word.now c.loop-b.b-index c.loop-b.value (omega arith) (sym c.in_err-value.ensures.value)) ∙ c.loop-b.invariant.1;
-  bound = tt;
-})
-
-pub loop-b-preserved : goal.loop-b-preserved
-loop-b-preserved c = (
-  c.in_ok-value.ensures.bound,
-  digits_more c.args.limit c.args.word.now c.loop-b.b-index c.loop-b.value c.in_ok-value.value (omega arith) (sym c.in_ok-value.ensures.value)
-      ∙ c.loop-b.invariant.1,
-)
+returns-in_err-value g c =
+    let narrow = digits_narrow g.N.Field.LIMIT 4294967295 c.args.word.now 0 g.N.Field.narrow (omega arith) in
+    grind (arith, common_steps)
 
 pub returns : goal.returns
-returns c = record {
-  value = sym (digits_end c.args.limit c.args.word.now c.loop-b.b-index c.loop-b.value c.loop-b-test.false) ∙ c.loop-b.invariant.1;
-  bound = c.loop-b.invariant.0;
-}
+returns g c =
+    let keeps = g.met.N.Field.keeps c.loop-b.value c.try_from.result c.try_from.ensures in
+    let narrow = digits_narrow g.N.Field.LIMIT 4294967295 c.args.word.now 0 g.N.Field.narrow (omega arith) in
+    let read : digits 4294967295 c.args.word.now 0 ≡ Some c.loop-b.value = sym c.loop-b.invariant ∙ ap (λ l. digits 4294967295 l c.loop-b.value) (drop_all c.loop-b.b-index c.args.word.now (omega arith)) in
+    let kept = ap (option_and_then (within g.N.Field.LIMIT)) read in
+    cc
