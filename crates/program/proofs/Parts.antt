@@ -73,13 +73,11 @@ module _ (r : Reader) (n : ℕ) where
 
 step_weight : (k : Kind) (s : Activity) → weight (command_of k s) ≡ 1
 step_weight Compensatable s = refl
-step_weight Pivot s = refl
-step_weight Retriable s = refl
+step_weight _ s = refl
 
 step_opens : (k : Kind) (s : Activity) (n : ℕ) → open_after n (command_of k s) ≡ n
 step_opens Compensatable s n = refl
-step_opens Pivot s n = refl
-step_opens Retriable s n = refl
+step_opens _ s n = refl
 
 module _ (r : Reader) where
   low : opened 0 (commands_of r) ≤ 4

@@ -2,11 +2,11 @@
 use Rattle.std.proofs.Common.{◌≡◌, ℕ, ◌+◌, ◌-◌, ◌*◌, ◌<◌, ◌≤◌, List, [], ◌∷◌, ◌++◌, length, take, drop, set, sym, refl, ap, ◌∙◌, subst, arith, length-append, length-drop, take-append-drop, length-take-le, take-add}
 use Rattle.std.proofs.lemmas.List.{take_all, take_more_set, drop_more, drop_all}
 use Rattle.program.specs.declared.command.Command.{Command}
-use Rattle.program.specs.declared.command.Command.TheVariants.{C, P, R, Open, Bar, Close, Stop}
+use Rattle.program.specs.declared.command.Command.TheVariants.{C, Open}
 use Rattle.program.specs.declared.refusal.Fault.{Fault}
 use Rattle.program.specs.declared.refusal.Fault.TheVariants.{TooLong, Misplaced, CutOff, TooManySteps, TooDeep, Trailing}
 use Rattle.program.specs.declared.reader.Reader.{Reader}
-use Rattle.program.specs.Grammar.{mark, written, bytes, text_commands, Yields, Yielded}
+use Rattle.program.specs.Grammar.{mark, written, bytes, Yields, Yielded}
 use Rattle.program.specs.Places.{body_at}
 use Rattle.program.specs.Refusals.{weight, step_count, Within, Whole, opened, Stands, Reason, Stuck, Refused, number_of}
 use Rattle.program.specs.Contexts.{Context, in_body_at, nowhere, over, go}
@@ -18,12 +18,7 @@ use Rattle.program.proofs.Counts.{bytes_more, count_more}
 
 pub width : (c : Command) → length (written c) ≡ 1 + 3 * weight c
 width (C s) = refl
-width (P s) = refl
-width (R s) = refl
-width Open = refl
-width Bar = refl
-width Close = refl
-width Stop = refl
+width _ = refl
 
 -- a reader that takes the command c at its place
 module _ (r : Reader) (c : Command) (here : Spelled r c) where
@@ -103,18 +98,17 @@ module _ (t : List ℕ) (r : Reader) (same : text_of r ≡ t) (end : context r �
   somewhere_else : context r ≡ nowhere → ⊥
   somewhere_else e = let a : over ≡ nowhere = sym end ∙ e in cc
 
-  pub finished : length t ≤ r.at → Yields t (body_at (commands_of r))
-  finished h =
-      let w = goes_whole (commands_of r) end in
-      let back : body_at (commands_of r) ≡ w.0 = ap body_at w.1 ∙ text_back w.0 in
-      let spelled : t ≡ bytes (text_commands w.0) = sym same ∙ sym (take_all r.at (text_of r) (omega (arith, ap length same))) ∙ r.split ∙ ap bytes w.1 in
-      subst (λ b. Yields t b) (sym back) (yields_of t w.0 spelled (omega (arith, r.short, ap length same)) (subst Within w.1 r.within))
-
   -- the commands read are those of a text that the grammar yields
   pub yielded : Yielded (commands_of r)
   yielded =
       let w = goes_whole (commands_of r) end in
       (w.0, w.1, yields_of (bytes (commands_of r)) w.0 (ap bytes w.1) (omega (arith, ap length r.split, length-take-le r.at (text_of r) r.inside, r.inside, r.short)) (subst Within w.1 r.within))
+
+  pub finished : length t ≤ r.at → Yields t (body_at (commands_of r))
+  finished h =
+      let all : bytes (commands_of r) ≡ t = sym r.split ∙ take_all r.at (text_of r) (omega (arith, ap length same)) ∙ same in
+      let back : yielded.0 ≡ body_at (commands_of r) = sym (ap body_at yielded.1 ∙ text_back yielded.0) in
+      subst (λ b. Yields t b) back (subst (λ l. Yields l yielded.0) all yielded.2)
 
   pub followed : r.at < length t → Refused t Trailing r.at
   followed h =
@@ -126,16 +120,8 @@ stuck_place t f place cs rest s = omega (arith, s.short, s.placed, ap length s.s
 
 pub refused_place : (t : List ℕ) (f : Fault) (place : ℕ) → Refused t f place → place ≤ 255
 refused_place t TooLong place h = omega arith
-refused_place t Misplaced place (cs, rest, s) = stuck_place t Misplaced place cs rest s
-refused_place t CutOff place (cs, rest, s) = stuck_place t CutOff place cs rest s
-refused_place t TooManySteps place (cs, rest, s) = stuck_place t TooManySteps place cs rest s
-refused_place t TooDeep place (cs, rest, s) = stuck_place t TooDeep place cs rest s
-refused_place t Trailing place (cs, rest, s) = stuck_place t Trailing place cs rest s
+refused_place t f place (cs, rest, s) = stuck_place t f place cs rest s
 
 pub number_bound : (f : Fault) → number_of f ≤ 6
 number_bound TooLong = omega arith
-number_bound Misplaced = omega arith
-number_bound CutOff = omega arith
-number_bound TooManySteps = omega arith
-number_bound TooDeep = omega arith
-number_bound Trailing = omega arith
+number_bound _ = omega arith
