@@ -102,10 +102,12 @@ impl<A: Station, B: Station> Station for Pair<A, B> {
     fn take_back(&mut self, activity: Activity, answer: u32) {
         match half_of(activity.number) {
             Some(Half::First(number)) => {
-                self.first.take_back(Activity { number, ..activity }, answer)
+                self.first
+                    .take_back(Activity { number, ..activity }, answer)
             }
             Some(Half::Second(number)) => {
-                self.second.take_back(Activity { number, ..activity }, answer)
+                self.second
+                    .take_back(Activity { number, ..activity }, answer)
             }
             None => {}
         }
