@@ -102,12 +102,12 @@ impl<A: Station, B: Station> Station for Pair<A, B> {
     fn take_back(&mut self, activity: Activity, answer: u32) {
         match half_of(activity.number) {
             Some(Half::First(number)) => {
-                self.first
-                    .take_back(Activity { number, ..activity }, answer)
+                let below = Activity { number, ..activity };
+                self.first.take_back(below, answer)
             }
             Some(Half::Second(number)) => {
-                self.second
-                    .take_back(Activity { number, ..activity }, answer)
+                let below = Activity { number, ..activity };
+                self.second.take_back(below, answer)
             }
             None => {}
         }

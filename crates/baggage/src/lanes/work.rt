@@ -63,13 +63,8 @@ impl Lane {
     fn recounted(self, count: Option<LaneCount>) -> Option<(u32, Lane)>
         ensures { result ≡ recounted self count }
     {
-        Some((
-            0,
-            Lane {
-                count: count?,
-                ..self
-            },
-        ))
+        let count = count?;
+        Some((0, Lane { count, ..self }))
     }
 }
 

@@ -58,13 +58,10 @@ impl Bag {
     {
         match self.stand {
             Some(_) => None,
-            None => Some((
-                0,
-                Bag {
-                    stand: Some(stand?),
-                    ..self
-                },
-            )),
+            None => {
+                let stand = Some(stand?);
+                Some((0, Bag { stand, ..self }))
+            }
         }
     }
 
