@@ -40,24 +40,10 @@ pub struct Catalogue {
 }
 
 impl Catalogue {
-    // The kind of an activity, as a listing has it where the table agrees with that.
+    // The kind of an activity, neither past the table's end: as a listing has it where the table agrees with that.
     pub fn kind(&self, number: u8) -> Kind
         ensures compensatable { (l : Listing) → agrees self.now l ≡ true → result.compensatable ≡ listed l.compensatables number }
         ensures retriable { (l : Listing) → agrees self.now l ≡ true → result.retriable ≡ listed l.retriables number }
-    {
-        self.kind_entry(number)
-    }
-
-    // Whether two activities conflict, as a listing has it where the table agrees with that.
-    pub fn conflict(&self, a: u8, b: u8) -> bool
-        ensures { (l : Listing) → agrees self.now l ≡ true → result ≡ matched l.conflicts a b }
-    {
-        self.conflict_entry(a, b)
-    }
-
-    // The table's entry: neither kind past its end.
-    fn kind_entry(&self, number: u8) -> Kind
-        ensures { result ≡ kind_at self.now number }
     {
         self.kinds
             .get(usize::from(number))
@@ -65,9 +51,9 @@ impl Catalogue {
             .unwrap_or(NEITHER)
     }
 
-    // The table's entry: no conflict past its end.
-    fn conflict_entry(&self, a: u8, b: u8) -> bool
-        ensures { result ≡ conflict_at self.now a b }
+    // Whether two activities conflict, which none does past the table's end: as a listing has it where the table agrees with that.
+    pub fn conflict(&self, a: u8, b: u8) -> bool
+        ensures { (l : Listing) → agrees self.now l ≡ true → result ≡ matched l.conflicts a b }
     {
         self.conflicts
             .get(usize::from(a))
