@@ -1,5 +1,5 @@
 -- What the activities of a station do to one of its cells.
-use Rattle.std.specs.Prelude.{◌≡◌, ℕ, Bool, true, false, List, length, is_some, Some, None, Option, MatchOption, slice_get}
+use Rattle.std.specs.Prelude.{◌≡◌, ℕ, Bool, true, false, List, length, is_some, Some, Option, MatchOption, slice_get}
 use Rattle.std.specs.List.{AllByRecursion}
 use Rattle.station.specs.Part.{Swap}
 use Rattle.baggage.specs.Tabled.{Listing, matched, proper}

@@ -1,5 +1,5 @@
 -- What the activities of the register mean.
-use Rattle.std.specs.Prelude.{ℕ, ◌/◌, ◌%◌, ◌<◌, Bool, true, false, List, [], ◌∷◌, replicate, Some, None, Option, slice_index_or, slice_set}
+use Rattle.std.specs.Prelude.{ℕ, ◌/◌, ◌%◌, ◌<◌, Bool, true, false, List, [], ◌∷◌, Some, None, Option, slice_index_or}
 use Rattle.std.proofs.Math.Decide.{dec_lt}
 use Rattle.station.specs.Meaning.{Meaning}
 use Rattle.baggage.specs.Tabled.{Listing}

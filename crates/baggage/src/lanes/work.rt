@@ -1,5 +1,5 @@
 // What the activities do to a lane, and how the sixteen are asked.
-ghost use Rattle.std.specs.Prelude.{◌≡◌, ◌<◌, true};
+ghost use Rattle.std.specs.Prelude.{◌≡◌};
 ghost use Rattle.baggage.specs.Lanes.{counted, raised, lowered, recounted, lane_meaning, count_at, flag_at};
 ghost use Rattle.baggage.specs.LaneLaws;
 

@@ -1,5 +1,5 @@
 // What the activities do to a bag, and how the 256 are asked.
-ghost use Rattle.std.specs.Prelude.{◌≡◌, ◌%◌, ◌<◌, true};
+ghost use Rattle.std.specs.Prelude.{◌≡◌};
 ghost use Rattle.baggage.specs.Register.{standing, number_of, entered, if_open, bag_meaning, value_of, bag_of};
 ghost use Rattle.baggage.specs.BagLaws;
 
