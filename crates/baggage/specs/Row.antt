@@ -27,10 +27,10 @@ module _ {C K : Type 0} (m : CellMeaning C K) {N : ℕ} where
   taken_back_at (Some k) (Some c) s p x = with_cell s (m.place p) (m.taken_back k x c)
   taken_back_at (Some k) None s p x = s
 
--- the activities and the catalogue of a row of N cells
+-- the five activities and the catalogue of a row of N cells
 abbrev pub in_row : {C K : Type 0} → CellMeaning C K → (N : ℕ) → Meaning (Row C N)
 in_row m N = record {
-  activities = length m.names;
+  activities = 5;
   performed = λ s a. performed_at m (slice_get m.names a.number) (slice_get s.cells (m.place a.parameter)) s a.parameter;
   taken_back = λ s a x. taken_back_at m (slice_get m.names a.number) (slice_get s.cells (m.place a.parameter)) s a.parameter x;
   compensatable = listed m.listing.compensatables;

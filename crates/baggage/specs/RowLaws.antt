@@ -164,11 +164,10 @@ module _ {C K : Type 0} {m : CellMeaning C K} (laws : CellLaws m) (N : ℕ) wher
 
   pub bounded : Bounded (in_row m N)
   bounded n above =
-      let past : slice_get m.names n ≡ None = slice_get_past m.names n above in
-      let over-five : 5 ≤ n = omega (arith, laws.five) in record {
+      let past : slice_get m.names n ≡ None = slice_get_past m.names n (omega (arith, laws.five)) in record {
         impossible = λ s a e. ap (λ o. performed_at m o (slice_get s.cells (m.place a.parameter)) s a.parameter) (ap (slice_get m.names) e ∙ past);
         nothing = λ s a x e. ap (λ o. taken_back_at m o (slice_get s.cells (m.place a.parameter)) s a.parameter x) (ap (slice_get m.names) e ∙ past);
-        not_compensatable = tables.not_compensatable m.listing laws.passes n over-five;
-        not_retriable = tables.not_retriable m.listing laws.passes n over-five;
-        without_conflict = λ k. tables.without_conflict m.listing laws.passes n k over-five;
+        not_compensatable = tables.not_compensatable m.listing laws.passes n above;
+        not_retriable = tables.not_retriable m.listing laws.passes n above;
+        without_conflict = λ k. tables.without_conflict m.listing laws.passes n k above;
       }

@@ -18,6 +18,7 @@ impl<C: Cell, const N: usize> Row<C, N> {
     ghost use Rattle.baggage.specs.Row.{first_row};
 
     // Every cell as it is at first.
+    #[tactic(auto, using(crate::specs::RowLaws::row_path), unfolding(crate::specs::Row::first_row))]
     pub fn new() -> Row<C, N>
         ensures { result ≡ first_row C.Cell.meaning N }
     {
