@@ -168,6 +168,7 @@ impl Register {
         self.bag(bag).reported
     }
 
+    #[tactic(auto, using(std::proofs::lemmas::List::get_or_read), unfolding(crate::specs::Register::bag_of))]
     fn bag(&self, bag: u8) -> Bag
         ensures { result ≡ bag_of self.now bag }
     {
