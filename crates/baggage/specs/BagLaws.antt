@@ -13,8 +13,7 @@ use Rattle.baggage.specs.Tabled.{matched, proper}
 use Rattle.baggage.specs.Register.{between, standing, number_of, with_stand, with_seal, with_report, entered, if_open, on_bag, names, register_listing, bag_meaning, register_meaning}
 use Rattle.station.specs.Part.{Swap, parts}
 use Rattle.baggage.specs.Swaps as swaps
-use Rattle.baggage.specs.Tables.{every, at}
-use Rattle.baggage.specs.Cell.{CellLaws, Undone, Ready, Free}
+use Rattle.baggage.specs.Cell.{CellLaws, Undone, Ready}
 use Rattle.baggage.specs.RowLaws as row
 
 -- ---- stands
@@ -175,8 +174,7 @@ blind Report p b = refl
 free : BagActivity → BagActivity → Bool
 free h k = (is Report h || is Report k) || (uses (use_of h) (use_of k) || ((is Look h && keeps k) || (is Look k && keeps h)))
 
--- the table's test: every two activities conflict or may change places
-all_free : every (λ n h. every (λ l k. matched register_listing.conflicts n l || free h k) 0 names) 0 names ≡ true
+all_free : row.AllFree bag_meaning free
 unfolding code is use_of uses keeps free
 all_free = refl
 
@@ -207,12 +205,6 @@ swap_free h k e p q s =
     (swaps.read_second (λ b. number_of b.stand) (on_bag h p) s (λ t u x f. keeps_stand h i.1 p x t u f)))))
     (ways h k e)
 
-changed_places : Free bag_meaning
-changed_places n l h k ih ik c p q =
-    let outer = at (λ n h. every (λ l k. matched register_listing.conflicts n l || free h k) 0 names) names all_free n h ih in
-    let inner = at (λ l k. matched register_listing.conflicts n l || free h k) names outer l k ik in
-    swap_free h k (rw c at inner) p q
-
 -- ---- the other laws
 look_ready : Ready bag_meaning Look
 look_ready = ((λ p b. refl), refl)
@@ -220,15 +212,12 @@ look_ready = ((λ p b. refl), refl)
 report_ready : Ready bag_meaning Report
 report_ready = ((λ p b. refl), refl)
 
-register_proper : proper register_listing ≡ true
-register_proper = refl
-
 pub laws : CellLaws bag_meaning
 laws = record {
   undone = (enter_back, (strike_back, (look_back, tt)));
-  free = changed_places;
+  free = row.changed_places bag_meaning free all_free swap_free;
   ready = (look_ready, (report_ready, tt));
-  passes = register_proper;
+  passes = refl;
   five = refl;
 }
 

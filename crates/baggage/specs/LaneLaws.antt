@@ -14,8 +14,7 @@ use Rattle.baggage.specs.declared.lanes.LaneActivity.TheVariants.{Take, Give, Co
 use Rattle.baggage.specs.Tabled.{matched, proper}
 use Rattle.baggage.specs.Lanes.{within, counted, raised, lowered, with_count, recounted, flagged, on_lane, off_lane, names, empty_lane, lanes_listing, lane_meaning, lanes_meaning}
 use Rattle.baggage.specs.Swaps as swaps
-use Rattle.baggage.specs.Tables.{every, at}
-use Rattle.baggage.specs.Cell.{CellLaws, Undone, Ready, Free}
+use Rattle.baggage.specs.Cell.{CellLaws, Undone, Ready}
 use Rattle.baggage.specs.RowLaws as row
 
 -- ---- counts
@@ -90,8 +89,7 @@ free : LaneActivity → LaneActivity → Bool
 unfolding code
 free h k = code h == code k || (code Flag == code h || code Flag == code k)
 
--- the test over all pairs: every two activities conflict or may change places
-all_free : every (λ n h. every (λ l k. matched lanes_listing.conflicts n l || free h k) 0 names) 0 names ≡ true
+all_free : row.AllFree lane_meaning free
 unfolding code free
 all_free = refl
 
@@ -142,12 +140,6 @@ swap_free h k e s =
     (or_cases (code Flag == code h) (code Flag == code k) z))
     (or_cases (code h == code k) (code Flag == code h || code Flag == code k) e)
 
-changed_places : Free lane_meaning
-changed_places n l h k ih ik c p q =
-    let outer = at (λ n h. every (λ l k. matched lanes_listing.conflicts n l || free h k) 0 names) names all_free n h ih in
-    let inner = at (λ l k. matched lanes_listing.conflicts n l || free h k) names outer l k ik in
-    swap_free h k (rw c at inner)
-
 -- ---- the other laws
 count_ready : Ready lane_meaning Count
 count_ready = ((λ p l. refl), refl)
@@ -155,15 +147,12 @@ count_ready = ((λ p l. refl), refl)
 flag_ready : Ready lane_meaning Flag
 flag_ready = ((λ p l. refl), refl)
 
-lanes_proper : proper lanes_listing ≡ true
-lanes_proper = refl
-
 pub laws : CellLaws lane_meaning
 laws = record {
   undone = (take_back, (give_back, (count_back, tt)));
-  free = changed_places;
+  free = row.changed_places lane_meaning free all_free (λ h k e p q. swap_free h k e);
   ready = (count_ready, (flag_ready, tt));
-  passes = lanes_proper;
+  passes = refl;
   five = refl;
 }
 

@@ -1,5 +1,5 @@
 -- A row of cells keeps the laws that its cells keep.
-use Rattle.std.specs.Prelude.{◌≡◌, ℕ, ◌<◌, ◌≤◌, Bool, true, false, cond, ◌≢◌, ◌⊎◌, List, length, is_some, Some, None, Option, MatchOption, slice_get, slice_index_or, refl}
+use Rattle.std.specs.Prelude.{◌≡◌, ◌||◌, ℕ, ◌<◌, ◌≤◌, Bool, true, false, cond, ◌≢◌, ◌⊎◌, List, length, is_some, Some, None, Option, MatchOption, slice_get, slice_index_or, refl}
 use Rattle.std.proofs.Common.{sym, ap, ◌∙◌, subst, inl, inr, ⊎_elim, arith, get_or-set_same, get_or-set_other, set-set}
 use Rattle.std.proofs.Math.Nat.{ℕ_set}
 use Rattle.std.proofs.lemmas.Bool.{cases_eq, cases_lt}
@@ -9,9 +9,9 @@ use Rattle.station.specs.Meaning.{Restores, Commutes, Symmetric, AlwaysPossible,
 use Rattle.station.specs.Part.{parts, outcome, Part, Swap, over, inside, back, swap_over, swap_apart, lifted_possible}
 use Rattle.baggage.specs.declared.row.Row.{Row}
 use Rattle.baggage.specs.Tabled.{matched}
-use Rattle.baggage.specs.Tables.{of_listed}
+use Rattle.baggage.specs.Tables.{of_listed, every, at}
 use Rattle.baggage.specs.Tables as tables
-use Rattle.baggage.specs.Cell.{CellMeaning, CellLaws, Undone, Ready, Named}
+use Rattle.baggage.specs.Cell.{CellMeaning, CellLaws, Undone, Ready, Named, Free}
 use Rattle.baggage.specs.Row.{with_cell, performed_at, taken_back_at, in_row}
 
 -- possible or not, with no effect
@@ -140,6 +140,18 @@ module _ {C K : Type 0} (m : CellMeaning C K) {N : ℕ} where
   retries_at None law p s c = absurd law
   retries_at (Some k) law p s (Some c) = lifted_possible (with_cell s (m.place p)) _ (law.0 p c)
   retries_at (Some k) law p s None = still_possible (m.anywhere k) s law.1
+
+module _ {C K : Type 0} (m : CellMeaning C K) (free : K → K → Bool) where
+  -- the test over all pairs: every two activities conflict or are free
+  abbrev pub AllFree : Type 0
+  AllFree = every (λ n h. every (λ l k. matched m.listing.conflicts n l || free h k) 0 m.names) 0 m.names ≡ true
+
+  -- and where those that are free change places on a cell, those that do not conflict do
+  pub changed_places : AllFree → ((h k : K) → free h k ≡ true → (p q : ℕ) (c : C) → Swap (m.performed h p) (m.performed k q) c) → Free m
+  changed_places passes law n l h k ih ik c p q s =
+      let outer = at (λ n h. every (λ l k. matched m.listing.conflicts n l || free h k) 0 m.names) m.names passes n h ih in
+      let inner = at (λ l k. matched m.listing.conflicts n l || free h k) m.names outer l k ik in
+      law h k (rw c at inner) p q s
 
 module _ {C K : Type 0} {m : CellMeaning C K} (laws : CellLaws m) (N : ℕ) where
   pub restores : Restores (in_row m N)
