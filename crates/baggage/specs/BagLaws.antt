@@ -1,43 +1,20 @@
 -- The register keeps the laws.
-use Rattle.std.specs.Prelude.{◌≡◌, ℕ, ◌%◌, ◌<◌, Bool, true, false, not, ◌&&◌, ◌||◌, ◌⊎◌, List, length, is_some, Some, None, Option, ◌==◌, refl}
-use Rattle.std.proofs.Common.{sym, ap, ◌∙◌, subst, inl, inr, ⊎_elim, arith, get_or-set_same, get_or-set_other, set-set}
+use Rattle.std.specs.Prelude.{◌≡◌, ℕ, ◌%◌, ◌<◌, Bool, true, false, not, ◌&&◌, ◌||◌, ◌⊎◌, is_some, Some, None, Option, ◌==◌, slice_get, refl}
+use Rattle.std.proofs.Common.{sym, ap, ◌∙◌, subst, inl, inr, ⊎_elim, arith}
 use Rattle.std.proofs.Math.Bridge.{le_prop}
-use Rattle.std.proofs.Math.Nat.{ℕ_set}
 use Rattle.std.proofs.Math.Decide.{dec_lt}
-use Rattle.std.proofs.lemmas.List.{set-get_or, set_comm}
 use Rattle.std.proofs.lemmas.Bool.{eqb-true, or_cases, and_parts, and_right, both_ways}
 use Rattle.baggage.specs.declared.register.Stand.{Stand}
 use Rattle.baggage.specs.declared.register.Bag.{Bag}
-use Rattle.baggage.specs.declared.register.Register.{Register}
 use Rattle.baggage.specs.declared.register.BagActivity.{BagActivity}
 use Rattle.baggage.specs.declared.register.BagActivity.TheVariants.{Enter, Strike, Look, Seal, Report}
 use Rattle.station.specs.Meaning.{Restores, Commutes, Symmetric, AlwaysPossible, Bounded, lifted}
 use Rattle.baggage.specs.Tabled.{matched, proper}
-use Rattle.baggage.specs.Row.{entry}
-use Rattle.baggage.specs.Register.{between, standing, number_of, with_stand, with_seal, with_report, entered, if_open, on_bag, names, absent_bag, bag_of, with_bag, register_listing, register_row, register_meaning}
+use Rattle.baggage.specs.Register.{between, standing, number_of, with_stand, with_seal, with_report, entered, if_open, on_bag, names, register_listing, bag_meaning, register_meaning}
 use Rattle.station.specs.Part.{Swap, parts}
 use Rattle.baggage.specs.Swaps as swaps
-use Rattle.baggage.specs.Tables.{every, at}
+use Rattle.baggage.specs.Cell.{CellLaws, Undone, Ready}
 use Rattle.baggage.specs.RowLaws as row
-
--- ---- the bags of a register
-abbrev register_with : (xs : List Bag) → length xs ≡ 256 → Register
-register_with xs h = record { bags = xs; all = h }
-
-pub register_path : (s t : Register) → s.bags ≡ t.bags → s ≡ t
-register_path s t e =
-    subst (λ (ys : List Bag). (q : length ys ≡ 256) → s ≡ register_with ys q) e
-    (λ q. ap (register_with s.bags) (ℕ_set _ _ s.all q)) t.all
-
-cells : row.Cells register_row
-unfolding bag_of with_bag
-cells = record {
-  get_put = λ i h w c. let k : i < length w.bags = omega (arith, w.all) in get_or-set_same w.bags i c absent_bag k;
-  put_get = λ i w. register_path _ _ (set-get_or w.bags i absent_bag);
-  put_put = λ i w c d. register_path _ _ (set-set w.bags i c d);
-  other = λ i j ne w c. get_or-set_other w.bags i j c absent_bag ne;
-  either_order = λ i j ne w c d. register_path _ _ (set_comm w.bags i j c d ne);
-}
 
 -- ---- stands
 abbrev stand_of : (n : ℕ) → (0 < n) × (n < 16) → Stand
@@ -74,21 +51,18 @@ open_is None z b c x e = (cc, cc, cc)
 open_is (Some t) true b c x e = (cc, cc, cc)
 open_is (Some t) false b c x e = let q = parts e in (sym q.0, sym q.1, refl)
 
-enter_back : row.Undone register_row Enter
+enter_back : Undone bag_meaning Enter
 enter_back p x b c e =
     let i = entered_is b c b.stand (standing (p % 16)) x e in
     ap (λ z. with_stand z None) i.1 ∙ ap (with_stand b) (sym i.0)
 
-strike_back : row.Undone register_row Strike
+strike_back : Undone bag_meaning Strike
 strike_back p x b c e =
     let i = open_is b.stand b.sealed (with_stand b None) c x e in
     ap (λ z. with_stand z (standing (x % 16))) i.1 ∙ ap (λ n. with_stand b (standing (n % 16))) i.0 ∙ ap (with_stand b) (stands_back b.stand)
 
-look_back : row.Undone register_row Look
+look_back : Undone bag_meaning Look
 look_back p x b c e = sym (parts e).1
-
-pub restores : Restores register_meaning
-restores = row.restores register_row cells (enter_back, (strike_back, (look_back, tt)))
 
 -- ---- which activities may change places on one bag
 code : BagActivity → ℕ
@@ -98,7 +72,7 @@ code Look = 2
 code Seal = 3
 code Report = 4
 
-coded : (k : BagActivity) → entry names (code k) ≡ Some k
+coded : (k : BagActivity) → slice_get names (code k) ≡ Some k
 unfolding code
 coded Enter = refl
 coded Strike = refl
@@ -111,7 +85,7 @@ is h k = code h == code k
 
 is_same : (h k : BagActivity) → is h k ≡ true → h ≡ k
 unfolding is
-is_same h k e = let z : Some h ≡ Some k = sym (coded h) ∙ ap (entry names) (eqb-true (code h) (code k) e) ∙ coded k in cc
+is_same h k e = let z : Some h ≡ Some k = sym (coded h) ∙ ap (slice_get names) (eqb-true (code h) (code k) e) ∙ coded k in cc
 
 -- entering asks for an absent bag and leaves it present; striking and sealing ask for one that is open and leave it otherwise
 data Use : Type 0 where
@@ -200,8 +174,7 @@ blind Report p b = refl
 free : BagActivity → BagActivity → Bool
 free h k = (is Report h || is Report k) || (uses (use_of h) (use_of k) || ((is Look h && keeps k) || (is Look k && keeps h)))
 
--- the table's test: every two activities conflict or may change places
-all_free : every (λ n h. every (λ l k. matched register_listing.conflicts n l || free h k) 0 names) 0 names ≡ true
+all_free : row.AllFree bag_meaning free
 unfolding code is use_of uses keeps free
 all_free = refl
 
@@ -232,30 +205,34 @@ swap_free h k e p q s =
     (swaps.read_second (λ b. number_of b.stand) (on_bag h p) s (λ t u x f. keeps_stand h i.1 p x t u f)))))
     (ways h k e)
 
-changed_places : row.Free register_row
-changed_places n l h k ih ik c p q =
-    let outer = at (λ n h. every (λ l k. matched register_listing.conflicts n l || free h k) 0 names) names all_free n h ih in
-    let inner = at (λ l k. matched register_listing.conflicts n l || free h k) names outer l k ik in
-    swap_free h k (rw c at inner) p q
-
-pub commutes : Commutes register_meaning
-commutes = row.commutes register_row cells changed_places
-
 -- ---- the other laws
-look_ready : row.Ready register_row Look
+look_ready : Ready bag_meaning Look
 look_ready = ((λ p b. refl), refl)
 
-report_ready : row.Ready register_row Report
+report_ready : Ready bag_meaning Report
 report_ready = ((λ p b. refl), refl)
 
-pub retries : AlwaysPossible register_meaning
-retries = row.retries register_row (look_ready, (report_ready, tt))
+pub laws : CellLaws bag_meaning
+laws = record {
+  undone = (enter_back, (strike_back, (look_back, tt)));
+  free = row.changed_places bag_meaning free all_free swap_free;
+  ready = (look_ready, (report_ready, tt));
+  passes = refl;
+  five = refl;
+}
 
-register_proper : proper register_listing ≡ true
-register_proper = refl
+-- ---- and so the 256 keep those of a station
+pub restores : Restores register_meaning
+restores = row.restores laws 256
+
+pub commutes : Commutes register_meaning
+commutes = row.commutes laws 256
 
 pub symmetric : Symmetric register_meaning
-symmetric = row.symmetric register_row register_proper
+symmetric = row.symmetric laws 256
+
+pub retries : AlwaysPossible register_meaning
+retries = row.retries laws 256
 
 pub bounded : Bounded register_meaning
-bounded = row.bounded register_row register_proper refl
+bounded = row.bounded laws 256

@@ -1,43 +1,21 @@
 -- The early bag store keeps the laws.
-use Rattle.std.specs.Prelude.{◌≡◌, ℕ, ◌+◌, ◌-◌, ◌<◌, ◌≤◌, Bool, true, false, ◌||◌, List, [], ◌∷◌, length, replicate, Some, None, Option, ◌==◌, slice_index_or, refl}
-use Rattle.std.proofs.Common.{sym, ap, ◌∙◌, subst, ⊎_elim, zero-le, arith, get_or-set_same, get_or-set_other, set-set}
+use Rattle.std.specs.Prelude.{◌≡◌, ℕ, ◌+◌, ◌-◌, ◌≤◌, Bool, true, false, ◌||◌, [], ◌∷◌, Some, None, Option, ◌==◌, slice_index_or, refl}
+use Rattle.std.proofs.Common.{sym, ap, ◌∙◌, subst, ⊎_elim, zero-le, arith}
 use Rattle.std.proofs.Math.Bridge.{le_prop}
-use Rattle.std.proofs.Math.Nat.{ℕ_set}
 use Rattle.std.proofs.Math.Decide.{dec_le}
-use Rattle.std.proofs.lemmas.List.{set-get_or, set_comm}
 use Rattle.std.specs.Option.{unwrap_or}
 use Rattle.std.proofs.lemmas.Bool.{eqb-true, eqb-false, or_cases, cases_Bool}
 use Rattle.station.specs.Meaning.{Restores, Commutes, Symmetric, AlwaysPossible, Bounded, lifted}
 use Rattle.station.specs.Part.{Swap, parts}
 use Rattle.baggage.specs.declared.lanes.LaneCount.{LaneCount}
 use Rattle.baggage.specs.declared.lanes.Lane.{Lane}
-use Rattle.baggage.specs.declared.lanes.Lanes.{Lanes}
 use Rattle.baggage.specs.declared.lanes.LaneActivity.{LaneActivity}
 use Rattle.baggage.specs.declared.lanes.LaneActivity.TheVariants.{Take, Give, Count, Send, Flag}
 use Rattle.baggage.specs.Tabled.{matched, proper}
-use Rattle.baggage.specs.Lanes.{within, counted, raised, lowered, with_count, recounted, flagged, on_lane, off_lane, names, empty_lane, first_lanes, lane_of, with_lane, lanes_listing, lanes_row, lanes_meaning}
+use Rattle.baggage.specs.Lanes.{within, counted, raised, lowered, with_count, recounted, flagged, on_lane, off_lane, names, empty_lane, lanes_listing, lane_meaning, lanes_meaning}
 use Rattle.baggage.specs.Swaps as swaps
-use Rattle.baggage.specs.Tables.{every, at}
+use Rattle.baggage.specs.Cell.{CellLaws, Undone, Ready}
 use Rattle.baggage.specs.RowLaws as row
-
--- ---- the sixteen lanes: equal where what they hold is
-abbrev lanes_with : (xs : List Lane) → length xs ≡ 16 → Lanes
-lanes_with xs h = record { lanes = xs; sixteen = h }
-
-pub lanes_path : (s t : Lanes) → s.lanes ≡ t.lanes → s ≡ t
-lanes_path s t e =
-    subst (λ (ys : List Lane). (q : length ys ≡ 16) → s ≡ lanes_with ys q) e
-    (λ q. ap (lanes_with s.lanes) (ℕ_set _ _ s.sixteen q)) t.sixteen
-
-cells : row.Cells lanes_row
-unfolding lane_of with_lane
-cells = record {
-  get_put = λ i h w c. let k : i < length w.lanes = omega (arith, w.sixteen) in get_or-set_same w.lanes i c empty_lane k;
-  put_get = λ i w. lanes_path _ _ (set-get_or w.lanes i empty_lane);
-  put_put = λ i w c d. lanes_path _ _ (set-set w.lanes i c d);
-  other = λ i j ne w c. get_or-set_other w.lanes i j c empty_lane ne;
-  either_order = λ i j ne w c d. lanes_path _ _ (set_comm w.lanes i j c d ne);
-}
 
 -- ---- counts
 abbrev count_of : (n : ℕ) → n ≤ 200 → LaneCount
@@ -84,21 +62,18 @@ recounted_is l m (Some c) x e =
     let q = parts e in
     (ap (λ z. Some z.count) q.1, sym q.1 ∙ ap (λ z. with_count l z.count) q.1, sym q.0)
 
-take_back : row.Undone lanes_row Take
+take_back : Undone lane_meaning Take
 take_back p x l m e =
     let i = recounted_is l m (raised l.count) x e in
     ap (off_lane Take) i.1 ∙ ap (λ o. with_count l (unwrap_or o m.count)) (raised_back l.count m.count i.0)
 
-give_back : row.Undone lanes_row Give
+give_back : Undone lane_meaning Give
 give_back p x l m e =
     let i = recounted_is l m (lowered l.count) x e in
     ap (off_lane Give) i.1 ∙ ap (λ o. with_count l (unwrap_or o m.count)) (lowered_back l.count m.count i.0)
 
-count_back : row.Undone lanes_row Count
+count_back : Undone lane_meaning Count
 count_back p x l m e = sym (parts e).1
-
-pub restores : Restores lanes_meaning
-restores = row.restores lanes_row cells (take_back, (give_back, (count_back, tt)))
 
 -- ---- which activities may change places on one lane
 -- what it does, by a number: giving and sending do the same
@@ -114,8 +89,7 @@ free : LaneActivity → LaneActivity → Bool
 unfolding code
 free h k = code h == code k || (code Flag == code h || code Flag == code k)
 
--- the test over all pairs: every two activities conflict or may change places
-all_free : every (λ n h. every (λ l k. matched lanes_listing.conflicts n l || free h k) 0 names) 0 names ≡ true
+all_free : row.AllFree lane_meaning free
 unfolding code free
 all_free = refl
 
@@ -166,38 +140,38 @@ swap_free h k e s =
     (or_cases (code Flag == code h) (code Flag == code k) z))
     (or_cases (code h == code k) (code Flag == code h || code Flag == code k) e)
 
-changed_places : row.Free lanes_row
-changed_places n l h k ih ik c p q =
-    let outer = at (λ n h. every (λ l k. matched lanes_listing.conflicts n l || free h k) 0 names) names all_free n h ih in
-    let inner = at (λ l k. matched lanes_listing.conflicts n l || free h k) names outer l k ik in
-    swap_free h k (rw c at inner)
-
-pub commutes : Commutes lanes_meaning
-commutes = row.commutes lanes_row cells changed_places
-
 -- ---- the other laws
-count_ready : row.Ready lanes_row Count
+count_ready : Ready lane_meaning Count
 count_ready = ((λ p l. refl), refl)
 
-flag_ready : row.Ready lanes_row Flag
+flag_ready : Ready lane_meaning Flag
 flag_ready = ((λ p l. refl), refl)
 
-pub retries : AlwaysPossible lanes_meaning
-retries = row.retries lanes_row (count_ready, (flag_ready, tt))
+pub laws : CellLaws lane_meaning
+laws = record {
+  undone = (take_back, (give_back, (count_back, tt)));
+  free = row.changed_places lane_meaning free all_free (λ h k e p q. swap_free h k e);
+  ready = (count_ready, (flag_ready, tt));
+  passes = refl;
+  five = refl;
+}
 
-lanes_proper : proper lanes_listing ≡ true
-lanes_proper = refl
+-- ---- and so the sixteen keep those of a station
+pub restores : Restores lanes_meaning
+restores = row.restores laws 16
+
+pub commutes : Commutes lanes_meaning
+commutes = row.commutes laws 16
 
 pub symmetric : Symmetric lanes_meaning
-symmetric = row.symmetric lanes_row lanes_proper
+symmetric = row.symmetric laws 16
+
+pub retries : AlwaysPossible lanes_meaning
+retries = row.retries laws 16
 
 pub bounded : Bounded lanes_meaning
-bounded = row.bounded lanes_row lanes_proper refl
+bounded = row.bounded laws 16
 
--- ---- the lanes at first
-abbrev unused : 0 ≤ 200 → Lane
-unused h = record { count = count_of 0 h; flag = false }
-
-pub all_empty : (h : 0 ≤ 200) (s : Lanes) → s.lanes ≡ replicate 16 (unused h) → s ≡ first_lanes
-unfolding first_lanes
-all_empty h s e = lanes_path s first_lanes (e ∙ ap (λ z. replicate 16 (unused z)) (le_prop h zero-le))
+-- ---- the lane at first
+pub is_empty : (h : 0 ≤ 200) → ◌≡◌ {A = Lane} (record { count = count_of 0 h; flag = false }) empty_lane
+is_empty h = ap (λ z. record { count = count_of 0 z; flag = false }) (le_prop h zero-le)

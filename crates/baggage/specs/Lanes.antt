@@ -1,14 +1,15 @@
 -- What the activities of the early bag store mean.
-use Rattle.std.specs.Prelude.{ℕ, ◌+◌, ◌-◌, ◌≤◌, Bool, true, false, cond, List, [], ◌∷◌, replicate, Some, None, Option, ◌==◌, nat_lt, slice_index_or, slice_set, refl}
-use Rattle.std.proofs.Common.{◌∙◌, zero-le, length-set}
+use Rattle.std.specs.Prelude.{ℕ, ◌+◌, ◌-◌, ◌≤◌, Bool, true, false, cond, List, [], ◌∷◌, Some, None, Option, ◌==◌, slice_get}
+use Rattle.std.proofs.Common.{zero-le}
 use Rattle.std.proofs.Math.Decide.{dec_le}
-use Rattle.std.specs.Option.{unwrap_or}
+use Rattle.std.specs.Option.{unwrap_or, option_map}
 use Rattle.station.specs.Meaning.{Meaning}
 use Rattle.baggage.specs.Tabled.{Listing}
-use Rattle.baggage.specs.Row.{Row, in_row}
+use Rattle.baggage.specs.declared.row.Row.{Row}
+use Rattle.baggage.specs.Cell.{CellMeaning}
+use Rattle.baggage.specs.Row.{first_row, in_row}
 use Rattle.baggage.specs.declared.lanes.LaneCount.{LaneCount}
 use Rattle.baggage.specs.declared.lanes.Lane.{Lane}
-use Rattle.baggage.specs.declared.lanes.Lanes.{Lanes}
 use Rattle.baggage.specs.declared.lanes.LaneActivity.{LaneActivity}
 use Rattle.baggage.specs.declared.lanes.LaneActivity.TheVariants.{Take, Give, Count, Send, Flag}
 
@@ -64,28 +65,6 @@ anywhere Count = true
 anywhere Send = false
 anywhere Flag = true
 
--- ---- the sixteen lanes
-
-abbrev pub empty_lane : Lane
-empty_lane = record { count = record { value = 0; bounded = zero-le }; flag = false }
-
--- the lanes at first
-unfoldable pub first_lanes : Lanes
-first_lanes = record { lanes = replicate 16 empty_lane; sixteen = refl }
-
-unfoldable pub lane_of : Lanes → ℕ → Lane
-lane_of s i = slice_index_or s.lanes i empty_lane
-
-unfoldable pub with_lane : Lanes → ℕ → Lane → Lanes
-with_lane s i l = record { lanes = slice_set s.lanes i l; sixteen = length-set s.lanes i l ∙ s.sixteen }
-
--- a lane's count and flag, where there is such a lane
-abbrev pub count_at : Lanes → ℕ → Option ℕ
-count_at s i = cond (nat_lt i 16) (Some (lane_of s i).count.value) None
-
-abbrev pub flag_at : Lanes → ℕ → Option Bool
-flag_at s i = cond (nat_lt i 16) (Some (lane_of s i).flag) None
-
 -- the activities, by number
 abbrev pub names : List LaneActivity
 names = Take ∷ Give ∷ Count ∷ Send ∷ Flag ∷ []
@@ -97,19 +76,36 @@ lanes_listing = record {
   conflicts = (0, 1) ∷ (0, 2) ∷ (0, 3) ∷ (1, 2) ∷ (2, 3) ∷ [];
 }
 
+abbrev pub empty_lane : Lane
+empty_lane = record { count = record { value = 0; bounded = zero-le }; flag = false }
+
 -- the parameter is the lane
-abbrev pub lanes_row : Row Lanes Lane LaneActivity
-lanes_row = record {
+abbrev pub lane_meaning : CellMeaning Lane LaneActivity
+lane_meaning = record {
+  first = empty_lane;
   names = names;
   listing = lanes_listing;
-  cells = 16;
   place = λ p. p;
-  get = lane_of;
-  put = with_lane;
   performed = λ k p l. on_lane k l;
   taken_back = λ k x l. off_lane k l;
   anywhere = anywhere;
 }
 
+-- ---- the sixteen lanes
+
+abbrev pub Lanes : Type 0
+Lanes = Row Lane 16
+
 abbrev pub lanes_meaning : Meaning Lanes
-lanes_meaning = in_row lanes_row
+lanes_meaning = in_row lane_meaning 16
+
+-- the lanes at first
+abbrev pub first_lanes : Lanes
+first_lanes = first_row lane_meaning 16
+
+-- a lane's count and flag, where there is such a lane
+abbrev pub count_at : Lanes → ℕ → Option ℕ
+count_at s i = option_map (λ l. l.count.value) (slice_get s.cells i)
+
+abbrev pub flag_at : Lanes → ℕ → Option Bool
+flag_at s i = option_map (λ l. l.flag) (slice_get s.cells i)

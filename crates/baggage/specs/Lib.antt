@@ -1,4 +1,5 @@
 pub mod Tabled
+pub mod Cell
 pub mod Row
 pub mod Lanes
 pub mod Register

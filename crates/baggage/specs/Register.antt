@@ -1,14 +1,13 @@
 -- What the activities of the register mean.
-use Rattle.std.specs.Prelude.{ℕ, ◌/◌, ◌%◌, ◌<◌, Bool, true, false, List, [], ◌∷◌, replicate, Some, None, Option, slice_index_or, slice_set}
-use Rattle.std.proofs.Common.{◌∙◌, length-set}
+use Rattle.std.specs.Prelude.{ℕ, ◌/◌, ◌%◌, ◌<◌, Bool, true, false, List, [], ◌∷◌, Some, None, Option, slice_index_or}
 use Rattle.std.proofs.Math.Decide.{dec_lt}
-use Rattle.std.proofs.lemmas.List.{length-replicate}
 use Rattle.station.specs.Meaning.{Meaning}
 use Rattle.baggage.specs.Tabled.{Listing}
-use Rattle.baggage.specs.Row.{Row, in_row}
+use Rattle.baggage.specs.declared.row.Row.{Row}
+use Rattle.baggage.specs.Cell.{CellMeaning}
+use Rattle.baggage.specs.Row.{first_row, in_row}
 use Rattle.baggage.specs.declared.register.Stand.{Stand}
 use Rattle.baggage.specs.declared.register.Bag.{Bag}
-use Rattle.baggage.specs.declared.register.Register.{Register}
 use Rattle.baggage.specs.declared.register.BagActivity.{BagActivity}
 use Rattle.baggage.specs.declared.register.BagActivity.TheVariants.{Enter, Strike, Look, Seal, Report}
 
@@ -77,21 +76,6 @@ anywhere Look = true
 anywhere Seal = false
 anywhere Report = true
 
--- ---- the 256 bags
-
-abbrev pub absent_bag : Bag
-absent_bag = record { stand = None; sealed = false; reported = false }
-
--- the bags at first
-unfoldable pub first_register : Register
-first_register = record { bags = replicate 256 absent_bag; all = length-replicate 256 absent_bag }
-
-unfoldable pub bag_of : Register → ℕ → Bag
-bag_of s i = slice_index_or s.bags i absent_bag
-
-unfoldable pub with_bag : Register → ℕ → Bag → Register
-with_bag s i b = record { bags = slice_set s.bags i b; all = length-set s.bags i b ∙ s.all }
-
 -- the activities, by number
 abbrev pub names : List BagActivity
 names = Enter ∷ Strike ∷ Look ∷ Seal ∷ Report ∷ []
@@ -103,19 +87,32 @@ register_listing = record {
   conflicts = (0, 1) ∷ (0, 2) ∷ (0, 3) ∷ (1, 2) ∷ [];
 }
 
+abbrev pub absent_bag : Bag
+absent_bag = record { stand = None; sealed = false; reported = false }
+
 -- the parameter is the bag times 16 and the stand
-abbrev pub register_row : Row Register Bag BagActivity
-register_row = record {
+abbrev pub bag_meaning : CellMeaning Bag BagActivity
+bag_meaning = record {
+  first = absent_bag;
   names = names;
   listing = register_listing;
-  cells = 256;
   place = λ p. p / 16;
-  get = bag_of;
-  put = with_bag;
   performed = on_bag;
   taken_back = off_bag;
   anywhere = anywhere;
 }
 
+-- ---- the 256 bags
+
+abbrev pub Register : Type 0
+Register = Row Bag 256
+
 abbrev pub register_meaning : Meaning Register
-register_meaning = in_row register_row
+register_meaning = in_row bag_meaning 256
+
+-- the bags at first
+abbrev pub first_register : Register
+first_register = first_row bag_meaning 256
+
+unfoldable pub bag_of : Register → ℕ → Bag
+bag_of s i = slice_index_or s.cells i absent_bag

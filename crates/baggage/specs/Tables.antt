@@ -5,7 +5,7 @@ use Rattle.std.proofs.lemmas.Bool.{and_parts, and_left, and_right, or_cases, or_
 use Rattle.std.specs.List.{AllByRecursion}
 use Rattle.baggage.specs.declared.catalogue.Catalogue.{Catalogue}
 use Rattle.baggage.specs.Tabled.{Listing, listed, matched, neither, kind_at, conflict_at, each_below, alike, all_below, pairs_below, proper, agrees, Agreed}
-use Rattle.baggage.specs.Row.{entry}
+use Rattle.std.specs.Prelude.{slice_get}
 
 -- ---- what a test says at each number
 
@@ -133,12 +133,12 @@ abbrev pub every : {X : Type 0} → (ℕ → X → Bool) → ℕ → List X → 
 every f i [] = true
 every f i (x ∷ xs) = f i x && every f (suc i) xs
 
-from : {X : Type 0} (f : ℕ → X → Bool) (xs : List X) (i n : ℕ) (x : X) → every f i xs ≡ true → entry xs n ≡ Some x → f (i + n) x ≡ true
+from : {X : Type 0} (f : ℕ → X → Bool) (xs : List X) (i n : ℕ) (x : X) → every f i xs ≡ true → slice_get xs n ≡ Some x → f (i + n) x ≡ true
 from f [] i n x t e = cc
 from f (y ∷ xs) i zero x t e = let same : y ≡ x = cc in rw (add-zero, ← same) (and_parts (f i y) (every f (suc i) xs) t).0
 from f (y ∷ xs) i (suc n) x t e = rw (add-suc, ← suc-add) (from f xs (suc i) n x (and_parts (f i y) (every f (suc i) xs) t).1 e)
 
-pub at : {X : Type 0} (f : ℕ → X → Bool) (xs : List X) → every f 0 xs ≡ true → (n : ℕ) (x : X) → entry xs n ≡ Some x → f n x ≡ true
+pub at : {X : Type 0} (f : ℕ → X → Bool) (xs : List X) → every f 0 xs ≡ true → (n : ℕ) (x : X) → slice_get xs n ≡ Some x → f n x ≡ true
 at f xs t n x e = subst (λ (k : ℕ). f k x ≡ true) (zero-add n) (from f xs 0 n x t e)
 
 -- what holds of each number of a list holds of one that is listed

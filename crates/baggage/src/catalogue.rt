@@ -3,7 +3,7 @@ ghost use Rattle.std.specs.Prelude.{◌≡◌, true};
 ghost use Rattle.baggage.specs.Tabled.{Listing, listed, matched, kind_at, conflict_at, agrees};
 
 // Whether an activity can be taken back, and whether it is possible in every state.
-#[derive(Clone, Copy)]
+#[derive(Clone, Copy, Debug, PartialEq, Eq)]
 pub struct Kind {
     pub compensatable: bool,
     pub retriable: bool,
@@ -33,46 +33,32 @@ const NEITHER: Kind = Kind {
 pub const KINDS: [Kind; 5] = [COMPENSATABLE, COMPENSATABLE, BOTH, NEITHER, RETRIABLE];
 
 // The kinds by number, and at row a and column b whether a and b conflict.
-#[derive(Clone, Copy)]
+#[derive(Clone, Copy, Debug, PartialEq, Eq)]
 pub struct Catalogue {
     pub kinds: [Kind; 5],
     pub conflicts: [[bool; 5]; 5],
 }
 
 impl Catalogue {
-    // The kind of an activity, as a listing has it where the table agrees with that.
+    // The kind of an activity, neither past the table's end: as a listing has it where the table agrees with that.
     pub fn kind(&self, number: u8) -> Kind
         ensures compensatable { (l : Listing) → agrees self.now l ≡ true → result.compensatable ≡ listed l.compensatables number }
         ensures retriable { (l : Listing) → agrees self.now l ≡ true → result.retriable ≡ listed l.retriables number }
     {
-        self.kind_entry(number)
+        self.kinds
+            .get(usize::from(number))
+            .copied()
+            .unwrap_or(NEITHER)
     }
 
-    // Whether two activities conflict, as a listing has it where the table agrees with that.
+    // Whether two activities conflict, which none does past the table's end: as a listing has it where the table agrees with that.
     pub fn conflict(&self, a: u8, b: u8) -> bool
         ensures { (l : Listing) → agrees self.now l ≡ true → result ≡ matched l.conflicts a b }
     {
-        self.conflict_entry(a, b)
-    }
-
-    // The table's entry: neither kind past its end.
-    fn kind_entry(&self, number: u8) -> Kind
-        ensures { result ≡ kind_at self.now number }
-    {
-        let n = usize::from(number);
-        if n < 5 { self.kinds[n] } else { NEITHER }
-    }
-
-    // The table's entry: no conflict past its end.
-    fn conflict_entry(&self, a: u8, b: u8) -> bool
-        ensures { result ≡ conflict_at self.now a b }
-    {
-        let i = usize::from(a);
-        let j = usize::from(b);
-        if i < 5 && j < 5 {
-            self.conflicts[i][j]
-        } else {
-            false
-        }
+        self.conflicts
+            .get(usize::from(a))
+            .and_then(|row| row.get(usize::from(b)))
+            .copied()
+            .unwrap_or(false)
     }
 }

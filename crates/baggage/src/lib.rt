@@ -2,8 +2,10 @@
 #![tactic(auto)]
 
 mod catalogue;
+mod cell;
 mod lanes;
 mod register;
+mod row;
 
 pub use lanes::Lanes;
 pub use register::Register;

@@ -1,17 +1,19 @@
 // The register: 256 bags, each absent or at a stand, with a sealed and a reported mark.
-ghost use Rattle.std.specs.Prelude.{◌≡◌, ◌<◌, length};
+ghost use Rattle.std.specs.Prelude.{◌≡◌, ◌<◌};
+
+use crate::row::Row;
 
 mod work;
 
 // A stand is where a bag waits, from 1 to 15.
-#[derive(Clone, Copy)]
+#[derive(Clone, Copy, Debug, PartialEq, Eq)]
 pub struct Stand {
     value: u8,
     ghost range: { (0 < value) × (value < 16) },
 }
 
 // A bag without a stand is absent. A sealed one can be neither struck nor sealed again.
-#[derive(Clone, Copy)]
+#[derive(Clone, Copy, Debug, PartialEq, Eq)]
 pub struct Bag {
     stand: Option<Stand>,
     sealed: bool,
@@ -19,7 +21,7 @@ pub struct Bag {
 }
 
 // The activities, in the order of their numbers.
-#[derive(Clone, Copy)]
+#[derive(Clone, Copy, Debug, PartialEq, Eq)]
 pub enum BagActivity {
     // an absent bag is entered at a stand
     Enter,
@@ -33,8 +35,4 @@ pub enum BagActivity {
     Report,
 }
 
-#[derive(Drop)]
-pub struct Register {
-    bags: [Bag; 256],
-    ghost all: { length bags ≡ 256 },
-}
+pub type Register = Row<Bag, 256>;

@@ -1,8 +1,8 @@
 -- What a pair of stations means.
-use Rattle.std.specs.Prelude.{ℕ, ◌-◌, Bool, false, cond, None, Option, nat_lt}
+use Rattle.std.specs.Prelude.{ℕ, ◌-◌, Bool, false, cond, Some, None, Option, nat_lt}
 use Rattle.activity.specs.declared.Activity.{Activity}
 use Rattle.station.specs.declared.pair.Half.{Half}
-use Rattle.station.specs.declared.pair.Half.TheVariants.{First, Second, Neither}
+use Rattle.station.specs.declared.pair.Half.TheVariants.{First, Second}
 use Rattle.station.specs.Meaning.{Meaning, lifted}
 
 -- the state of a pair: one of each half
@@ -10,9 +10,9 @@ pub record Both (A B : Type 0) : Type 0 where
   pub first : A
   pub second : B
 
--- the half that a number belongs to, with its number there
-abbrev pub half : ℕ → Half
-half n = cond (nat_lt n 32) (First n) (cond (nat_lt n 64) (Second (n - 32)) Neither)
+-- the half that a number belongs to, if any, with its number there
+abbrev pub half : ℕ → Option Half
+half n = cond (nat_lt n 32) (Some (First n)) (cond (nat_lt n 64) (Some (Second (n - 32))) None)
 
 -- the same parameter under another number
 abbrev pub numbered : ℕ → Activity → Activity
@@ -25,35 +25,35 @@ abbrev pub with_second : {A B : Type 0} → Both A B → B → Both A B
 with_second s t = record { first = s.first; second = t }
 
 module _ {A B : Type 0} (m : Meaning A) (n : Meaning B) where
-  abbrev pub performed_in : Half → Both A B → Activity → Option (ℕ × Both A B)
-  performed_in (First k) s a = lifted (with_first s) (m.performed s.first (numbered k a))
-  performed_in (Second k) s a = lifted (with_second s) (n.performed s.second (numbered k a))
-  performed_in Neither s a = None
+  abbrev pub performed_in : Option Half → Both A B → Activity → Option (ℕ × Both A B)
+  performed_in (Some (First k)) s a = lifted (with_first s) (m.performed s.first (numbered k a))
+  performed_in (Some (Second k)) s a = lifted (with_second s) (n.performed s.second (numbered k a))
+  performed_in None s a = None
 
-  abbrev pub taken_back_in : Half → Both A B → Activity → ℕ → Both A B
-  taken_back_in (First k) s a x = with_first s (m.taken_back s.first (numbered k a) x)
-  taken_back_in (Second k) s a x = with_second s (n.taken_back s.second (numbered k a) x)
-  taken_back_in Neither s a x = s
+  abbrev pub taken_back_in : Option Half → Both A B → Activity → ℕ → Both A B
+  taken_back_in (Some (First k)) s a x = with_first s (m.taken_back s.first (numbered k a) x)
+  taken_back_in (Some (Second k)) s a x = with_second s (n.taken_back s.second (numbered k a) x)
+  taken_back_in None s a x = s
 
-  abbrev pub compensatable_in : Half → Bool
-  compensatable_in (First k) = m.compensatable k
-  compensatable_in (Second k) = n.compensatable k
-  compensatable_in Neither = false
+  abbrev pub compensatable_in : Option Half → Bool
+  compensatable_in (Some (First k)) = m.compensatable k
+  compensatable_in (Some (Second k)) = n.compensatable k
+  compensatable_in None = false
 
-  abbrev pub retriable_in : Half → Bool
-  retriable_in (First k) = m.retriable k
-  retriable_in (Second k) = n.retriable k
-  retriable_in Neither = false
+  abbrev pub retriable_in : Option Half → Bool
+  retriable_in (Some (First k)) = m.retriable k
+  retriable_in (Some (Second k)) = n.retriable k
+  retriable_in None = false
 
   -- the halves never conflict with one another
-  abbrev pub conflict_in : Half → Half → Bool
-  conflict_in (First k) (First l) = m.conflict k l
-  conflict_in (First k) (Second l) = false
-  conflict_in (First k) Neither = false
-  conflict_in (Second k) (First l) = false
-  conflict_in (Second k) (Second l) = n.conflict k l
-  conflict_in (Second k) Neither = false
-  conflict_in Neither h = false
+  abbrev pub conflict_in : Option Half → Option Half → Bool
+  conflict_in (Some (First k)) (Some (First l)) = m.conflict k l
+  conflict_in (Some (First k)) (Some (Second l)) = false
+  conflict_in (Some (First k)) None = false
+  conflict_in (Some (Second k)) (Some (First l)) = false
+  conflict_in (Some (Second k)) (Some (Second l)) = n.conflict k l
+  conflict_in (Some (Second k)) None = false
+  conflict_in None h = false
 
   -- 0 to 31 belong to the first station, 32 to 63, less 32, to the second
   abbrev pub paired : Meaning (Both A B)

@@ -1,5 +1,5 @@
 // Two stations side by side.
-ghost use Rattle.station.specs.Pair.{paired, half, numbered, Both};
+ghost use Rattle.station.specs.Pair.{paired, half, Both};
 ghost use Rattle.std.specs.Prelude.{◌≡◌};
 ghost use Rattle.station.specs.Paired;
 
@@ -51,32 +51,20 @@ impl<A, B> Pair<A, B> {
 }
 
 // The half of a pair that a number belongs to, with its number there.
-#[derive(Clone, Copy)]
+#[derive(Clone, Copy, Debug, PartialEq, Eq)]
 enum Half {
     First(u8),
     Second(u8),
-    Neither,
 }
 
-fn half_of(number: u8) -> Half
+// Numbers from 64 on belong to neither.
+fn half_of(number: u8) -> Option<Half>
     ensures { result ≡ half number }
 {
-    if number < HALF {
-        Half::First(number)
-    } else if number < WHOLE {
-        Half::Second(number - HALF)
-    } else {
-        Half::Neither
-    }
-}
-
-// The same parameter under another number.
-fn renamed(activity: Activity, number: u8) -> Activity
-    ensures { result ≡ numbered number activity }
-{
-    Activity {
-        number,
-        parameter: activity.parameter,
+    match number {
+        0..HALF => Some(Half::First(number)),
+        HALF..WHOLE => Some(Half::Second(number - HALF)),
+        _ => None,
     }
 }
 
@@ -103,42 +91,48 @@ impl<A: Station, B: Station> Station for Pair<A, B> {
         u32::from(WHOLE)
     }
 
+    // (d) Each method names both halves: they have two types, so one method that picks would take a closure for each, no plainer than an arm.
     fn perform(&mut self, activity: Activity) -> Option<u32> {
-        match half_of(activity.number) {
-            Half::First(number) => self.first.perform(renamed(activity, number)),
-            Half::Second(number) => self.second.perform(renamed(activity, number)),
-            Half::Neither => None,
+        match half_of(activity.number)? {
+            Half::First(number) => self.first.perform(Activity { number, ..activity }),
+            Half::Second(number) => self.second.perform(Activity { number, ..activity }),
         }
     }
 
     fn take_back(&mut self, activity: Activity, answer: u32) {
         match half_of(activity.number) {
-            Half::First(number) => self.first.take_back(renamed(activity, number), answer),
-            Half::Second(number) => self.second.take_back(renamed(activity, number), answer),
-            Half::Neither => {}
+            Some(Half::First(number)) => {
+                let below = Activity { number, ..activity };
+                self.first.take_back(below, answer)
+            }
+            Some(Half::Second(number)) => {
+                let below = Activity { number, ..activity };
+                self.second.take_back(below, answer)
+            }
+            None => {}
         }
     }
 
     fn compensatable(&self, number: u8) -> bool {
         match half_of(number) {
-            Half::First(number) => self.first.compensatable(number),
-            Half::Second(number) => self.second.compensatable(number),
-            Half::Neither => false,
+            Some(Half::First(number)) => self.first.compensatable(number),
+            Some(Half::Second(number)) => self.second.compensatable(number),
+            None => false,
         }
     }
 
     fn retriable(&self, number: u8) -> bool {
         match half_of(number) {
-            Half::First(number) => self.first.retriable(number),
-            Half::Second(number) => self.second.retriable(number),
-            Half::Neither => false,
+            Some(Half::First(number)) => self.first.retriable(number),
+            Some(Half::Second(number)) => self.second.retriable(number),
+            None => false,
         }
     }
 
     fn conflict(&self, a: u8, b: u8) -> bool {
         match (half_of(a), half_of(b)) {
-            (Half::First(a), Half::First(b)) => self.first.conflict(a, b),
-            (Half::Second(a), Half::Second(b)) => self.second.conflict(a, b),
+            (Some(Half::First(a)), Some(Half::First(b))) => self.first.conflict(a, b),
+            (Some(Half::Second(a)), Some(Half::Second(b))) => self.second.conflict(a, b),
             _ => false,
         }
     }

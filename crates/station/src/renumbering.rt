@@ -49,8 +49,8 @@ fn shifted(activity: Activity, offset: u16) -> Activity
     ensures { result ≡ shifted_by offset activity }
 {
     Activity {
-        number: activity.number,
         parameter: activity.parameter.wrapping_add(offset),
+        ..activity
     }
 }
 

@@ -9,7 +9,7 @@ pub fn act(number: u8, parameter: u16) -> Activity {
 
 // Performs each, by number and parameter, and expects this answer; None where it is not possible.
 pub fn performs<S: Station>(rt: &impl Abort, subject: &mut S, steps: &[(u8, u16, Option<u32>)]) {
-    for (number, parameter, answer) in steps {
-        assert_eq!(rt; subject.perform(act(*number, *parameter)), *answer);
+    for &(number, parameter, answer) in steps {
+        assert_eq!(rt; subject.perform(act(number, parameter)), answer);
     }
 }

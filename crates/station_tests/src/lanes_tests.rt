@@ -7,13 +7,13 @@ use station::Station;
 #[test]
 fn first_state(rt: HostRuntime) {
     let lanes = Lanes::new();
-    for lane in 0..16u8 {
+    for lane in 0..16 {
         assert_eq!(rt; lanes.count(lane), Some(0));
         assert_eq!(rt; lanes.flag(lane), Some(false));
     }
-    for lane in 16..256u16 {
-        assert_eq!(rt; lanes.count(lane as u8), None);
-        assert_eq!(rt; lanes.flag(lane as u8), None);
+    for lane in 16..=u8::MAX {
+        assert_eq!(rt; lanes.count(lane), None);
+        assert_eq!(rt; lanes.flag(lane), None);
     }
 }
 
@@ -96,9 +96,9 @@ fn no_such_lane(rt: HostRuntime) {
 #[test]
 fn no_such_activity(rt: HostRuntime) {
     let mut lanes = Lanes::new();
-    for n in 5..256u16 {
-        assert_eq!(rt; lanes.perform(act(n as u8, 0)), None);
-        lanes.take_back(act(n as u8, 0), 1);
+    for n in 5..=u8::MAX {
+        assert_eq!(rt; lanes.perform(act(n, 0)), None);
+        lanes.take_back(act(n, 0), 1);
     }
     assert_eq!(rt; lanes.count(0), Some(0));
     assert_eq!(rt; lanes.flag(0), Some(false));

@@ -7,10 +7,10 @@ use station::Station;
 #[test]
 fn first_state(rt: HostRuntime) {
     let register = Register::new();
-    for bag in 0..256u16 {
-        assert_eq!(rt; register.stand(bag as u8), None);
-        assert!(rt; !register.sealed(bag as u8));
-        assert!(rt; !register.reported(bag as u8));
+    for bag in 0..=u8::MAX {
+        assert_eq!(rt; register.stand(bag), None);
+        assert!(rt; !register.sealed(bag));
+        assert!(rt; !register.reported(bag));
     }
 }
 

@@ -3,7 +3,7 @@ use mathlib.Core.Path.{◌≡◌, refl, subst}
 use mathlib.Core.List.{List, map}
 use native.Mathlib.Decide.{dec_le}
 use Rattle.program.specs.Worked.{WorkedTexts}
-use Rattle.baggage.specs.Lanes.{first_lanes, lane_of, with_lane}
+use Rattle.baggage.specs.Row.{first_row, with_cell}
 use Rattle.protocol.specs.Hall.{fresh}
 use Rattle.protocol.specs.CallFunction.{after_all}
 use Rattle.protocol.specs.Statements.{Runs}
@@ -24,43 +24,43 @@ comes_out ls e =
     (end, subst (λ ts. Runs sides_meaning (fresh first_sides) es ts end) e (computed_runs sides_meaning (fresh first_sides) es))
 
 refused_and_left : Computes worked.refused_and_left
-unfolding first_lanes lane_of with_lane dec_le
+unfolding first_row with_cell dec_le
 refused_and_left = refl
 
 commits_in_order : Computes worked.commits_in_order
-unfolding first_lanes lane_of with_lane dec_le
+unfolding first_row with_cell dec_le
 commits_in_order = refl
 
 withdrawal_cascades : Computes worked.withdrawal_cascades
-unfolding first_lanes lane_of with_lane dec_le
+unfolding first_row with_cell dec_le
 withdrawal_cascades = refl
 
 past_pivot_stays : Computes worked.past_pivot_stays
-unfolding first_lanes lane_of with_lane dec_le
+unfolding first_row with_cell dec_le
 past_pivot_stays = refl
 
 second_alternative : Computes worked.second_alternative
-unfolding first_lanes lane_of with_lane dec_le
+unfolding first_row with_cell dec_le
 second_alternative = refl
 
 pivots_apart : Computes worked.pivots_apart
-unfolding first_lanes lane_of with_lane dec_le
+unfolding first_row with_cell dec_le
 pivots_apart = refl
 
 younger_gives_way : Computes worked.younger_gives_way
-unfolding first_lanes lane_of with_lane dec_le
+unfolding first_row with_cell dec_le
 younger_gives_way = refl
 
 pivot_waits_for_older : Computes worked.pivot_waits_for_older
-unfolding first_lanes lane_of with_lane dec_le
+unfolding first_row with_cell dec_le
 pivot_waits_for_older = refl
 
 scan_list_answered : Computes worked.scan_list_answered
-unfolding first_lanes lane_of with_lane dec_le
+unfolding first_row with_cell dec_le
 scan_list_answered = refl
 
 calls_refused : Computes worked.calls_refused
-unfolding first_lanes lane_of with_lane dec_le
+unfolding first_row with_cell dec_le
 calls_refused = refl
 
 pub halls : WorkedTexts → WorkedHalls

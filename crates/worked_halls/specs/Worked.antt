@@ -6,10 +6,8 @@ use Rattle.program.specs.Grammar.{Body, finish, compensatable, pivot, row, or_el
 use Rattle.program.specs.Worked.{WorkedTexts}
 use Rattle.station.specs.Meaning.{Meaning}
 use Rattle.station.specs.Pair.{Both, paired}
-use Rattle.baggage.specs.declared.lanes.Lanes.{Lanes}
-use Rattle.baggage.specs.declared.register.Register.{Register}
-use Rattle.baggage.specs.Lanes.{lanes_meaning, first_lanes}
-use Rattle.baggage.specs.Register.{register_meaning, first_register}
+use Rattle.baggage.specs.Lanes.{Lanes, lanes_meaning, first_lanes}
+use Rattle.baggage.specs.Register.{Register, register_meaning, first_register}
 use Rattle.protocol.specs.declared.answer.Turn.{Turn}
 use Rattle.protocol.specs.declared.answer.Turn.TheVariants.{Done, Failed, Wait, Undone, Restarted, Gone, Next, Committed}
 use Rattle.protocol.specs.Answer.{Answer}
