@@ -5,7 +5,7 @@ use Rattle.protocol.specs.declared.standing.Aim.TheVariants.{Restart}
 use Rattle.protocol.specs.declared.standing.Standing.TheVariants.{Withdrawing}
 use Rattle.protocol.specs.Log.{any, owned, own, from_pivot, Split, or_here, last_of, pivoted}
 use Rattle.protocol.specs.Hall as protocol
-use Rattle.protocol.specs.Hall.{find, least, lower, running, stand}
+use Rattle.protocol.specs.Hall.{least, lower, running, stand}
 use Rattle.protocol.specs.StepFunction as rules
 use Rattle.protocol.proofs.LastRecords.{from_none, LastIs, last_is}
 use Rattle.protocol.proofs.Members.{any_kept}
@@ -13,17 +13,8 @@ use Rattle.protocol.proofs.Places as places
 use Rattle.protocol.proofs.Places.{least_by_loop}
 use Rattle.program.specs.declared.program.Program.{Program}
 use Rattle.hall.specs.declared.process.Process.{Process}
-use Rattle.hall.specs.Claims.{seek, latest, after_pivot, least_from, marked}
-use Rattle.hall.specs.Model.{seen, all_seen, seen_at, split_of}
-
--- a process found by a loop
-pub seek_is : (ps : List (Option Program)) (n i : ℕ) (qs : List Process) → seen_at ps (seek n i qs) ≡ find n (all_seen ps qs)
-seek_is ps n i [] = refl
-seek_is ps n i (q ∷ qs) = go (eqb q.start n) (seek_is ps n (i + 1) qs)
-  where
-    go : (b : Bool) → seen_at ps (seek n (i + 1) qs) ≡ find n (all_seen ps qs) → seen_at ps (cond b (Some (i, q)) (seek n (i + 1) qs)) ≡ cond b (Some (seen ps q)) (find n (all_seen ps qs))
-    go true h = refl
-    go false h = h
+use Rattle.hall.specs.Claims.{latest, after_pivot, least_from, marked}
+use Rattle.hall.specs.Model.{seen, all_seen, split_of}
 
 -- the last record, by a loop
 abbrev from_split : ℕ → Option (ℕ × Record) → Option Split → Option (ℕ × Record)

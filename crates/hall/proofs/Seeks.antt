@@ -1,25 +1,11 @@
 -- The steps of the loops that look for a process or a record.
-use Rattle.std.proofs.Common.{◌≡◌, ℕ, ◌+◌, ◌<◌, ◌≤◌, Bool, true, false, cond, ◌&&◌, eqb, List, length, get_or, drop, Some, None, Option, sym, ◌∙◌}
+use Rattle.std.proofs.Common.{◌≡◌, ℕ, ◌+◌, ◌<◌, ◌≤◌, Bool, true, false, cond, ◌&&◌, eqb, List, length, get_or, drop, Some, Option, sym, ◌∙◌}
 use Rattle.std.proofs.lemmas.List.{at_drop_more, at_drop_all}
 use Rattle.std.proofs.lemmas.Bool.{eq-eqb, ne_eqb}
-use Rattle.hall.specs.Claims.{seek, latest, after_pivot, least_from, marked, withdrawn}
+use Rattle.hall.specs.Claims.{latest, after_pivot, least_from, marked, withdrawn}
 use Rattle.protocol.specs.Hall.{lower}
 use Rattle.hall.specs.declared.process.Process.{Process}
 use Rattle.protocol.specs.declared.record.Record.{Record}
-
-module _ (n : ℕ) (qs : List Process) (i : ℕ) (t : Option (ℕ × Process)) (inv : seek n i (drop i qs) ≡ t) where
-  seek_step : (q : Process) (b : Bool) → i < length qs → q ≡ get_or qs i q → eqb q.start n ≡ b → cond b (Some (i, q)) (seek n (i + 1) (drop (i + 1) qs)) ≡ t
-  seek_step q b h at e =
-      let s : seek n i (drop i qs) ≡ cond (eqb (get_or qs i q).start n) (Some (i, get_or qs i q)) (seek n (i + 1) (drop (i + 1) qs)) = at_drop_more (seek n i) qs i q h in cc
-
-  pub seek_here : (q : Process) → i < length qs → q ≡ get_or qs i q → q.start ≡ n → Some (i, q) ≡ t
-  seek_here q h at e = seek_step q true h at (eq-eqb _ _ e)
-
-  pub seek_on : (q : Process) → i < length qs → q ≡ get_or qs i q → (q.start ≡ n → ⊥) → seek n (i + 1) (drop (i + 1) qs) ≡ t
-  seek_on q h at e = seek_step q false h at (ne_eqb _ _ e)
-
-  pub seek_none : length qs ≤ i → None ≡ t
-  seek_none h = sym (at_drop_all (seek n i) qs i h) ∙ inv
 
 module _ (n : ℕ) (rs : List Record) (i : ℕ) (best t : Option (ℕ × Record)) (inv : latest n i best (drop i rs) ≡ t) where
   latest_step : (r : Record) (b : Bool) → i < length rs → r ≡ get_or rs i r → eqb r.start n ≡ b → latest n (i + 1) (cond b (Some (i, r)) best) (drop (i + 1) rs) ≡ t

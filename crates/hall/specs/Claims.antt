@@ -1,5 +1,6 @@
 -- Who blocks a claim, and whom it marks.
-use Rattle.std.specs.Prelude.{ℕ, ◌+◌, Bool, true, false, cond, not, ◌&&◌, ◌||◌, List, [], ◌∷◌, drop, Some, None, Option, ◌==◌, nat_lt}
+use Rattle.std.specs.Prelude.{ℕ, ◌+◌, Bool, true, false, cond, not, ◌&&◌, ◌||◌, List, [], ◌∷◌, drop, Some, Option, ◌==◌, nat_lt}
+use Rattle.program.specs.declared.cursor.Cursor.{Cursor}
 use Rattle.protocol.specs.declared.record.Record.{Record}
 use Rattle.protocol.specs.declared.standing.Standing.{Standing}
 use Rattle.protocol.specs.declared.standing.Aim.TheVariants.{Restart}
@@ -42,6 +43,14 @@ withdrawn b q = cond (b && running q.standing) record { start = q.start; place =
 abbrev pub marked : (Process → Bool) → Process → Process
 marked p q = withdrawn (p q) q
 
+-- a process of the table at another standing and another place of its program
+abbrev pub moved : Process → Standing → Cursor → Process
+moved p s to = record p { standing = s; cursor = to }
+
+-- the process p in place of the one of its number
+abbrev pub put : Process → Process → Process
+put p q = cond (q.start == p.start) p q
+
 -- the least one, with a best so far, as a loop finds it
 abbrev pub least_from : (Process → Bool) → Option ℕ → List Process → Option ℕ
 least_from t best [] = best
@@ -56,10 +65,6 @@ latest n i best (r ∷ rs) = latest n (i + 1) (cond (r.start == n) (Some (i, r))
 abbrev pub after_pivot : ℕ → ℕ → ℕ → List Record → ℕ
 after_pivot n i best [] = best
 after_pivot n i best (r ∷ rs) = after_pivot n (i + 1) (cond (r.start == n && r.pivot) (i + 1) best) rs
-
-abbrev pub seek : ℕ → ℕ → List Process → Option (ℕ × Process)
-seek n i [] = None
-seek n i (q ∷ qs) = cond (q.start == n) (Some (i, q)) (seek n (i + 1) qs)
 
 -- a record is of the process n, and the process m has a later one in conflict
 abbrev pub follows : (ℕ → ℕ → Bool) → ℕ → ℕ → List Record → Bool

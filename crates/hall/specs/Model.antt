@@ -1,5 +1,6 @@
 -- What the hall's tables stand for.
-use Rattle.std.specs.Prelude.{ℕ, ◌+◌, List, map, take, drop, Some, None, vec_items, Option, slice_index_or}
+use Rattle.std.specs.Prelude.{◌≡◌, ℕ, ◌+◌, List, map, take, drop, Some, None, vec_items, Option, slice_index_or}
+use Rattle.std.specs.List.{All}
 use Rattle.program.specs.declared.program.Program.{Program}
 use Rattle.program.specs.declared.cursor.Cursor.{Cursor}
 use Rattle.program.specs.Grammar.{Body, finish}
@@ -35,10 +36,9 @@ all_seen programs qs = map (seen programs) qs
 abbrev pub model : {S T : Type 0} → (S → T) → Tables S → protocol.Hall T
 model view h = record { station = view h.station; log = vec_items h.log; processes = all_seen h.programs (vec_items h.processes); programs = map body_in h.programs; given = h.given; committed = h.committed }
 
--- what a search found, seen
-abbrev pub seen_at : List (Option Program) → Option (ℕ × Process) → Option protocol.Process
-seen_at programs None = None
-seen_at programs (Some s) = Some (seen programs s.1)
+-- no other process of the table has the number
+abbrev pub IsOnly : Process → List Process → Type 0
+IsOnly p qs = All (λ q. q.start ≡ p.start → q ≡ p) qs
 
 -- the record at a place, with what stands before and after it
 abbrev pub split_of : List Record → Option (ℕ × Record) → Option Split

@@ -1,8 +1,10 @@
 // What the tables have where.
-ghost use Rattle.std.specs.Prelude.{◌≡◌, ◌<◌, ◌&&◌, drop, IfSome, if◌then◌else◌, vec_len, nat_eq, slice_index_or};
+ghost use Rattle.std.specs.Prelude.{◌≡◌, ◌==◌, ◌<◌, ◌&&◌, drop, IfSome, if◌then◌else◌, vec_len, nat_eq};
+ghost use Rattle.std.specs.List.{find as first};
+ghost use Rattle.std.specs.Option.{option_map};
 ghost use Rattle.protocol.specs.Log.{own, from_pivot, last_of};
 ghost use Rattle.protocol.specs.Hall.{find};
-ghost use Rattle.hall.specs.Model.{model, seen_at, split_of};
+ghost use Rattle.hall.specs.Model.{model, seen, split_of};
 
 use super::Tables;
 use crate::process::Process;
@@ -21,18 +23,12 @@ fn pivot_place(r: Record, start: u16, next: usize, best: usize) -> usize
 }
 
 impl<S: Station> Tables<S> {
-    // The process of that number, with its place.
-    pub(super) fn place(&self, start: u16) -> Option<(usize, Process)>
-        ensures value { seen_at self.now.programs result ≡ find start (model S.Station.view self.now).processes }
-        ensures item { IfSome result (λ s. (s.0 < vec_len self.now.processes) × (s.1 ≡ slice_index_or self.now.processes.items s.0 s.1)) }
+    // The process of that number.
+    pub(super) fn process(&self, start: u16) -> Option<Process>
+        ensures there { result ≡ first (λ q. q.start == start) self.now.processes.items }
+        ensures seen { option_map (seen self.now.programs) result ≡ find start (model S.Station.view self.now).processes }
     {
-        for i in 0..self.processes.len() {
-            let q = self.processes[i];
-            if q.start == start {
-                return Some((i, q));
-            }
-        }
-        None
+        self.processes.iter().find(|q| q.start == start).copied()
     }
 
     // The last record of that number, with its place.

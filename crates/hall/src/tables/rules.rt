@@ -1,13 +1,12 @@
 // The rules of a step.
 ghost use Rattle.std.specs.Prelude.{◌≡◌, ◌+◌, ◌<◌, map, take, drop, vec_len, slice_index_or};
-ghost use Rattle.serial.specs.Sorts.{Pairwise};
 ghost use Rattle.program.specs.Positions.{onward as led_on, alternative_of};
 ghost use Rattle.protocol.specs.declared.answer.Answer.TheVariants.{Stepped};
 ghost use Rattle.protocol.specs.Ahead.{nothing, plain, crossing};
 ghost use Rattle.protocol.specs.Log.{committed_under, returnable};
 ghost use Rattle.protocol.specs.Hall.{answered, failed, standing_after};
 ghost use Rattle.protocol.specs.StepFunction.{performed, undone, backward, forward};
-ghost use Rattle.hall.specs.Model.{model, seen, here};
+ghost use Rattle.hall.specs.Model.{model, seen, here, IsOnly};
 ghost use Rattle.hall.specs.Rules.{with_nothing_left, pivot_unless_met};
 
 use super::Tables;
@@ -40,10 +39,8 @@ fn after_step(pivot: bool, s: Standing) -> Standing
 
 impl<S: Station> Tables<S> {
     // The step is performed and recorded, or fails.
-    fn perform(&mut self, i: usize, p: Process, pivot: bool, activity: Activity) -> Turn
-        requires within { i < vec_len self.old.processes }
-        requires at { p ≡ slice_index_or self.old.processes.items i p }
-        requires rising { Pairwise (λ a b. a.start < b.start) (model S.Station.view self.old).processes }
+    fn perform(&mut self, p: Process, pivot: bool, activity: Activity) -> Turn
+        requires only { IsOnly p self.old.processes.items }
         requires room { vec_len self.old.log < 1024 }
         ensures { answered (model S.Station.view self.new) (Stepped result) ≡ performed (model S.Station.view self.old) (seen self.old.programs p) pivot activity (led_on (here self.old.programs p)) (S.Station.meaning.performed (S.Station.view self.old.station) activity) }
     {
@@ -57,21 +54,19 @@ impl<S: Station> Tables<S> {
                     commit: 0,
                     pivot,
                 });
-                self.relocate(i, p, after_step(pivot, p.standing), to);
+                self.relocate(p, after_step(pivot, p.standing), to);
                 Turn::Done(answer)
             }
             None => {
-                self.restand(i, p, after_failure(p.standing));
+                self.relocate(p, after_failure(p.standing), p.cursor);
                 Turn::Failed
             }
         }
     }
 
     // A step that is no pivot is next.
-    pub(super) fn go(&mut self, i: usize, p: Process, activity: Activity) -> Turn
-        requires within { i < vec_len self.old.processes }
-        requires at { p ≡ slice_index_or self.old.processes.items i p }
-        requires rising { Pairwise (λ a b. a.start < b.start) (model S.Station.view self.old).processes }
+    pub(super) fn go(&mut self, p: Process, activity: Activity) -> Turn
+        requires only { IsOnly p self.old.processes.items }
         requires room { vec_len self.old.log < 1024 }
         ensures { answered (model S.Station.view self.new) (Stepped result) ≡ forward S.Station.meaning (model S.Station.view self.old) (seen self.old.programs p) (plain activity (led_on (here self.old.programs p))) }
     {
@@ -85,15 +80,13 @@ impl<S: Station> Tables<S> {
                 self.mark(c);
                 Turn::Wait(first)
             }
-            None => self.perform(i, p, false, activity),
+            None => self.perform(p, false, activity),
         }
     }
 
     // A pivot, once no other process past its pivot blocks it: those whose records it meets do.
-    fn cross(&mut self, i: usize, p: Process, activity: Activity) -> Turn
-        requires within { i < vec_len self.old.processes }
-        requires at { p ≡ slice_index_or self.old.processes.items i p }
-        requires rising { Pairwise (λ a b. a.start < b.start) (model S.Station.view self.old).processes }
+    fn cross(&mut self, p: Process, activity: Activity) -> Turn
+        requires only { IsOnly p self.old.processes.items }
         requires room { vec_len self.old.log < 1024 }
         ensures { answered (model S.Station.view self.new) (Stepped result) ≡ pivot_unless_met S.Station.meaning (model S.Station.view self.old) (seen self.old.programs p) activity (led_on (here self.old.programs p)) }
     {
@@ -108,15 +101,13 @@ impl<S: Station> Tables<S> {
                 self.mark(c);
                 Turn::Wait(first)
             }
-            None => self.perform(i, p, true, activity),
+            None => self.perform(p, true, activity),
         }
     }
 
     // A pivot is next: of a running process, it waits first for another past its pivot, which nobody is marked for.
-    pub(super) fn pivot(&mut self, i: usize, p: Process, activity: Activity) -> Turn
-        requires within { i < vec_len self.old.processes }
-        requires at { p ≡ slice_index_or self.old.processes.items i p }
-        requires rising { Pairwise (λ a b. a.start < b.start) (model S.Station.view self.old).processes }
+    pub(super) fn pivot(&mut self, p: Process, activity: Activity) -> Turn
+        requires only { IsOnly p self.old.processes.items }
         requires room { vec_len self.old.log < 1024 }
         ensures { answered (model S.Station.view self.new) (Stepped result) ≡ forward S.Station.meaning (model S.Station.view self.old) (seen self.old.programs p) (crossing activity (led_on (here self.old.programs p))) }
     {
@@ -129,15 +120,13 @@ impl<S: Station> Tables<S> {
                 self.mark(c);
                 Turn::Wait(first)
             }
-            None => self.cross(i, p, activity),
+            None => self.cross(p, activity),
         }
     }
 
     // The process withdraws or goes back.
-    pub(super) fn back(&mut self, i: usize, p: Process) -> Turn
-        requires within { i < vec_len self.old.processes }
-        requires at { p ≡ slice_index_or self.old.processes.items i p }
-        requires rising { Pairwise (λ a b. a.start < b.start) (model S.Station.view self.old).processes }
+    pub(super) fn back(&mut self, p: Process) -> Turn
+        requires only { IsOnly p self.old.processes.items }
         // The ordinal of the alternative that comes next fits the letter N, which holds one byte: so far the caller shows it.
         requires few { alternative_of (here self.old.programs p) < 255 }
         ensures { answered (model S.Station.view self.new) (Stepped result) ≡ backward S.Station.meaning (model S.Station.view self.old) (seen self.old.programs p) (with_nothing_left (model S.Station.view self.old) (seen self.old.programs p) p.standing) (returnable p.start self.old.log.items) }
@@ -145,7 +134,7 @@ impl<S: Station> Tables<S> {
         match self.last_record(p.start) {
             Some((k, r)) => {
                 if r.pivot {
-                    return self.turn(i, p);
+                    return self.turn(p);
                 }
                 let c = Claim::Back {
                     start: p.start,
@@ -160,7 +149,7 @@ impl<S: Station> Tables<S> {
                     None => self.undo(k, r),
                 }
             }
-            None => self.turn(i, p),
+            None => self.turn(p),
         }
     }
 
@@ -175,10 +164,8 @@ impl<S: Station> Tables<S> {
     }
 
     // Nothing is left to take back.
-    fn turn(&mut self, i: usize, p: Process) -> Turn
-        requires within { i < vec_len self.old.processes }
-        requires at { p ≡ slice_index_or self.old.processes.items i p }
-        requires rising { Pairwise (λ a b. a.start < b.start) (model S.Station.view self.old).processes }
+    fn turn(&mut self, p: Process) -> Turn
+        requires only { IsOnly p self.old.processes.items }
         // The ordinal of the alternative that comes next fits the letter N, which holds one byte: so far the caller shows it.
         requires few { alternative_of (here self.old.programs p) < 255 }
         ensures { answered (model S.Station.view self.new) (Stepped result) ≡ with_nothing_left (model S.Station.view self.old) (seen self.old.programs p) p.standing }
@@ -186,28 +173,25 @@ impl<S: Station> Tables<S> {
         match p.standing {
             Standing::Withdrawing(Aim::Restart) => {
                 let to = self.first(p.place);
-                self.relocate(i, p, Standing::Running, to);
+                self.relocate(p, Standing::Running, to);
                 Turn::Restarted
             }
             Standing::Withdrawing(Aim::End) => {
-                self.leave(i, p);
+                self.leave(p.start);
                 Turn::Gone
             }
             _ => {
                 let k = self.alternative(p) + 1;
                 let to = self.next_alternative(p);
-                self.relocate(i, p, Standing::PastPivot(Direction::Forward), to);
+                self.relocate(p, Standing::PastPivot(Direction::Forward), to);
                 Turn::Next(k as u8)
             }
         }
     }
 
     // Nothing is next: the process commits, once nobody has a record before a conflicting one of it.
-    pub(super) fn commit(&mut self, i: usize, p: Process) -> Turn
-        requires within { i < vec_len self.old.processes }
-        requires at { p ≡ slice_index_or self.old.processes.items i p }
-        requires rising { Pairwise (λ a b. a.start < b.start) (model S.Station.view self.old).processes }
-        requires few { self.old.committed < 65536 }
+    pub(super) fn commit(&mut self, p: Process) -> Turn
+        requires { self.old.committed < 65536 }
         ensures { answered (model S.Station.view self.new) (Stepped result) ≡ forward S.Station.meaning (model S.Station.view self.old) (seen self.old.programs p) nothing }
     {
         let c = Claim::Commit { start: p.start };
@@ -219,7 +203,7 @@ impl<S: Station> Tables<S> {
             None => {
                 let n = self.committed + 1;
                 number_records(self.log.as_mut_slice(), p.start, n);
-                self.leave(i, p);
+                self.leave(p.start);
                 self.committed = n;
                 Turn::Committed(n)
             }
