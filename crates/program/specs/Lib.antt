@@ -1,3 +1,4 @@
+pub mod Command
 pub mod Grammar
 pub mod Refusals
 pub mod Outcome

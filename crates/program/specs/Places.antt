@@ -227,5 +227,5 @@ left_into k l = left_among k l l.choices
 pub record Found (p : Program) (from k at n : ℕ) : Type 0 where
   pub there : rest_at (drop at (program_commands p)) ≡ alternative (choices_at (drop from (program_commands p))) k
   pub count : n ≡ reached (choices_at (drop from (program_commands p))) k
-  pub low : n ≤ 255
+  pub low : n ≤ 254
   pub text : drop at (program_commands p) ≡ skipped k (drop from (program_commands p))

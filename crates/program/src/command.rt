@@ -5,6 +5,7 @@ ghost use Rattle.program.specs.Refusals.{weight};
 ghost use Rattle.program.specs.Places.{step_of};
 
 use activity::Activity;
+use std::fmt;
 
 // What a step must be: one that can be taken back; one past which its process does not go back; one that cannot fail.
 #[derive(Clone, Copy, Debug, PartialEq, Eq)]
@@ -14,11 +15,39 @@ pub enum Kind {
     Retriable,
 }
 
+impl fmt::Display for Kind {
+    ghost use Rattle.std.specs.Prelude.{Some};
+    ghost use Rattle.program.specs.Command.{kind_shown};
+
+    ghost output = { λ k. Some (kind_shown k) };
+
+    fn fmt<W: fmt::Write>(&self, f: &mut fmt::Formatter<W>) -> fmt::Result {
+        f.write_str(match self {
+            Kind::Compensatable => "compensatable",
+            Kind::Pivot => "pivot",
+            Kind::Retriable => "retriable",
+        })
+    }
+}
+
 // A step of a program: what it must be, and what it asks of the station.
 #[derive(Clone, Copy, Debug, PartialEq, Eq)]
 pub struct Step {
     pub kind: Kind,
     pub activity: Activity,
+}
+
+// As in `pivot, activity 3, parameter 256`.
+impl fmt::Display for Step {
+    ghost use Rattle.std.specs.Prelude.{Some};
+    ghost use Rattle.program.specs.Command.{step_shown};
+
+    ghost output = { λ s. Some (step_shown s) };
+
+    fn fmt<W: fmt::Write>(&self, f: &mut fmt::Formatter<W>) -> fmt::Result {
+        let Step { kind, activity } = *self;
+        write!(f, "{kind}, {activity}")
+    }
 }
 
 // A command of a text: a step by its letter C, P or R, or one of the marks `[`, `|`, `]` and the full stop.

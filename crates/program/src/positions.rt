@@ -22,7 +22,7 @@ impl Cursor {
     // The ordinal, from 0, of the alternative taken at the last pivot; 0 before any pivot.
     pub fn alternative(self) -> u32
         ensures is { (p : Program) → result ≡ alternative_of (position p self) }
-        ensures low { result ≤ 255 }
+        ensures low { result ≤ 254 }
     {
         match self.choices {
             None => 0,
@@ -68,16 +68,20 @@ fn row_mark(command: Command) -> bool
 }
 
 impl Program {
+    // The commands of the text.
+    pub fn commands(&self) -> &[Command]
+        ensures text { result.now ≡ text_commands (tree self.now) }
+        ensures table { result.now ≡ program_commands self.now }
+    {
+        &self.commands[..self.len]
+    }
+
     // The command at a place, from 0, of the text.
     pub fn command(&self, at: usize) -> Option<Command>
         ensures there { result ≡ nth (text_commands (tree self.now)) at }
         ensures first { result ≡ first (drop at (program_commands self.now)) }
     {
-        if at < self.len {
-            Some(self.commands[at])
-        } else {
-            None
-        }
+        self.commands().get(at).copied()
     }
 
     // The step that stands next at a cursor.
@@ -142,6 +146,7 @@ impl Program {
 
     // Where alternative `k` of the choices from an index on begins, and its ordinal; past the last one the last.
     fn alternative_at(&self, from: usize, k: u32) -> (usize, u32)
+        requires { 2 ≤ from }
         ensures { Found self.now from k result.0 result.1 }
     {
         let mut place = from;

@@ -9,7 +9,13 @@ loop-turn-init c =
     let text = drop c.args.from (program_commands c.args.self.now) in
     let first = choices_at text in
     let all : c.args.k - 0 ≡ c.args.k = omega arith in
-    (ap (alternative first) all, omega (arith, ap (reached first) all), omega arith, omega arith, ap (λ j. skipped j text) all)
+    record {
+      there = ap (alternative first) all;
+      count = omega (arith, ap (reached first) all);
+      text = ap (λ j. skipped j text) all;
+      passed = omega arith;
+      low = omega arith;
+    }
 
 pub returns-then-starts_row : goal.returns-then-starts_row
 returns-then-starts_row c =
@@ -17,10 +23,10 @@ returns-then-starts_row c =
     let j = c.args.k - c.loop-turn.turn in
     let starts = sym c.if-starts_row.ensures in
     record {
-      there = row_stays xs j starts ∙ c.loop-turn.invariant.0;
-      count = omega (arith, row_reached xs j starts, c.loop-turn.invariant.1);
-      low = omega (arith, c.loop-turn.invariant.3, c.args.self.now.room);
-      text = row_skipped xs j starts ∙ c.loop-turn.invariant.4;
+      there = row_stays xs j starts ∙ c.loop-turn.invariant.there;
+      count = omega (arith, row_reached xs j starts, c.loop-turn.invariant.count);
+      low = c.loop-turn.invariant.low;
+      text = row_skipped xs j starts ∙ c.loop-turn.invariant.text;
     }
 
 pub loop-turn-preserved : goal.loop-turn-preserved
@@ -30,13 +36,14 @@ loop-turn-preserved c =
     let j = c.args.k - (c.loop-turn.turn + 1) in
     let goes = sym c.if-starts_row.ensures in
     let one : suc j ≡ c.args.k - c.loop-turn.turn = omega arith in
-    let later = c.after_bar-place.ensures.later (before_end p c.loop-turn.place goes) in (
-      ap (λ ys. alternative (choices_at ys) j) c.after_bar-place.ensures.there ∙ body_turns xs j goes ∙ ap (alternative (choices_at xs)) one ∙ c.loop-turn.invariant.0,
-      omega (arith, ap (λ ys. reached (choices_at ys) j) c.after_bar-place.ensures.there, body_reached xs j goes, ap (reached (choices_at xs)) one, c.loop-turn.invariant.1),
-      omega (arith, later.0, c.loop-turn.invariant.2),
-      omega (arith, later.0, later.1, c.loop-turn.invariant.2),
-      ap (skipped j) c.after_bar-place.ensures.there ∙ body_skipped xs j goes ∙ ap (λ n. skipped n xs) one ∙ c.loop-turn.invariant.4,
-    )
+    let later = c.after_bar-place.ensures.later (before_end p c.loop-turn.place goes) in
+    record {
+      there = ap (λ ys. alternative (choices_at ys) j) c.after_bar-place.ensures.there ∙ body_turns xs j goes ∙ ap (alternative (choices_at xs)) one ∙ c.loop-turn.invariant.there;
+      count = omega (arith, ap (λ ys. reached (choices_at ys) j) c.after_bar-place.ensures.there, body_reached xs j goes, ap (reached (choices_at xs)) one);
+      text = ap (skipped j) c.after_bar-place.ensures.there ∙ body_skipped xs j goes ∙ ap (λ n. skipped n xs) one ∙ c.loop-turn.invariant.text;
+      passed = omega (arith, later.0);
+      low = omega (arith, later.0, later.1, p.room);
+    }
 
 pub returns : goal.returns
 returns c =
@@ -44,8 +51,8 @@ returns c =
     let here = choices_at text in
     let none : c.args.k - c.loop-turn.turn ≡ 0 = omega arith in
     record {
-      there = sym (ap (alternative here) none) ∙ c.loop-turn.invariant.0;
-      count = omega (arith, ap (reached here) none, none_reached here, c.loop-turn.invariant.1);
-      low = omega (arith, c.loop-turn.invariant.3, c.args.self.now.room);
-      text = sym (ap (λ j. skipped j text) none) ∙ c.loop-turn.invariant.4;
+      there = sym (ap (alternative here) none) ∙ c.loop-turn.invariant.there;
+      count = omega (arith, ap (reached here) none, none_reached here, c.loop-turn.invariant.count);
+      low = omega arith;
+      text = sym (ap (λ j. skipped j text) none) ∙ c.loop-turn.invariant.text;
     }
