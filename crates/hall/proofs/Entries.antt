@@ -1,21 +1,23 @@
 -- Entries of the tables: a process written over or taken out, where one begins, a commit, and room for what comes next.
-use Rattle.std.proofs.Common.{◌≡◌, ℕ, zero, suc, ◌+◌, ◌<◌, Bool, true, false, cond, not, eqb, List, [], ◌∷◌, map, get_or, Some, None, Option, sym, refl, ap, ◌∙◌, add-one, arith, vec_items, vec_len}
+use Rattle.std.proofs.Common.{◌≡◌, ℕ, zero, suc, ◌+◌, ◌<◌, Bool, true, false, cond, not, eqb, List, [], ◌∷◌, map, get_or, Some, None, Option, IsSome, sym, refl, ap, ◌∙◌, add-one, arith, vec_items, vec_len}
 use mathlib.Core.Logic.{∥∥₁_elim}
 use native.Mathlib.Bridge.{le_prop}
 use Rattle.std.specs.List.{find as first, filter, AllByRecursion}
 use Rattle.std.specs.Option.{option_map}
 use Rattle.std.proofs.lemmas.List.Elements.{All-head, All-tail, All-cons, All-from_recursion}
 use Rattle.std.proofs.lemmas.Bool.{eq-eqb, ne_eqb, eqb-true, eqb-false}
-use Rattle.activity.specs.declared.Activity.{Activity}
 use Rattle.program.specs.declared.program.Program.{Program}
 use Rattle.program.specs.declared.cursor.Cursor.{Cursor}
+use Rattle.program.specs.declared.command.Step.{Step}
+use Rattle.program.specs.declared.command.Kind.{Kind}
+use Rattle.program.specs.declared.command.Kind.TheVariants.{Compensatable, Pivot, Retriable}
 use Rattle.program.specs.Positions.{Position, outer}
 use Rattle.program.specs.Places.{tree, position}
 use Rattle.protocol.specs.declared.record.Record.{Record}
 use Rattle.protocol.specs.declared.standing.Standing.{Standing}
 use Rattle.protocol.specs.declared.answer.Answer.TheVariants.{Stepped}
 use Rattle.protocol.specs.declared.answer.Turn.TheVariants.{Committed}
-use Rattle.protocol.specs.Ahead.{next, plain, crossing}
+use Rattle.protocol.specs.Ahead.{next, by_kind}
 use Rattle.protocol.specs.Log.{committed_under}
 use Rattle.protocol.specs.Hall as protocol
 use Rattle.protocol.specs.Hall.{find, changed, without, body_of, beginning, answered}
@@ -27,7 +29,7 @@ use Rattle.protocol.proofs.Places.{Rising}
 use Rattle.hall.specs.declared.process.Process.{Process}
 use Rattle.hall.specs.declared.tables.Tables.{Tables}
 use Rattle.hall.specs.Claims.{moved, put}
-use Rattle.hall.specs.Model.{model, here, seen, all_seen, position_in, body_in, IsOnly}
+use Rattle.hall.specs.Model.{model, here, step_to, seen, all_seen, position_in, body_in, IsOnly}
 
 -- a process of the table found, written over or taken out by its number
 module _ (ps : List (Option Program)) (n : ℕ) where
@@ -119,11 +121,14 @@ module _ {S T : Type 0} (view : S → T) (h : Tables S) (held : ∥ Held (model 
   own_number : find p.start (all_seen h.programs (vec_items h.processes)) ≡ Some (seen h.programs p)
   own_number = ap (λ k. find k (all_seen h.programs (vec_items h.processes))) (found_start n (all_seen h.programs (vec_items h.processes)) (seen h.programs p) (sym seen_found)) ∙ sym seen_found
 
-  pub room_go : (a : Activity) (to : Position) → plain a to ≡ next (here h.programs p) → vec_len h.log < 1024
-  room_go a to x = ∥∥₁_elim held le_prop (λ d. let room = room_plain (model view h) d (seen h.programs p) own_number a to (sym x) in omega (arith, room, h.log.ok.0))
-
-  pub room_cross : (a : Activity) (to : Position) → crossing a to ≡ next (here h.programs p) → vec_len h.log < 1024
-  room_cross a to x = ∥∥₁_elim held le_prop (λ d. let room = room_pivot (model view h) d (seen h.programs p) own_number a to (sym x) in omega (arith, room, h.log.ok.0))
+  pub room_found : (o : Option Step) (to : Position) → IsSome o → step_to o to ≡ next (here h.programs p) → vec_len h.log < 1024
+  room_found None to i x = absurd (cc)
+  room_found (Some s) to i x = ∥∥₁_elim held le_prop (λ d. go d s.kind x)
+    where
+      go : Held (model view h) → (k : Kind) → by_kind k s.activity to ≡ next (here h.programs p) → vec_len h.log < 1024
+      go d Compensatable e = let room = room_plain (model view h) d (seen h.programs p) own_number s.activity to (sym e) in omega (arith, room, h.log.ok.0)
+      go d Pivot e = let room = room_pivot (model view h) d (seen h.programs p) own_number s.activity to (sym e) in omega (arith, room, h.log.ok.0)
+      go d Retriable e = let room = room_plain (model view h) d (seen h.programs p) own_number s.activity to (sym e) in omega (arith, room, h.log.ok.0)
 
 -- a commit number more can be told
 pub few_commits : {S : Type 0} (h : protocol.Hall S) → ∥ Held h ∥₁ → h.committed < 65536

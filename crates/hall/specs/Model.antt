@@ -10,10 +10,8 @@ use Rattle.program.specs.Places.{tree, position}
 use Rattle.protocol.specs.declared.record.Record.{Record}
 use Rattle.protocol.specs.Log.{Split}
 use Rattle.protocol.specs.Hall as protocol
-use Rattle.protocol.specs.Ahead.{Next, nothing, plain, crossing, by_kind}
+use Rattle.protocol.specs.Ahead.{Next, nothing, by_kind}
 use Rattle.hall.specs.declared.process.Process.{Process}
-use Rattle.hall.specs.declared.process.Item.{Item}
-use Rattle.hall.specs.declared.process.Item.TheVariants.{Nothing, Plain, Pivot}
 use Rattle.hall.specs.declared.tables.Tables.{Tables}
 
 -- a cursor in the program at a place
@@ -49,13 +47,7 @@ split_of log (Some s) = Some record { before = take s.0 log; at = s.1; after = d
 abbrev pub position_at : List (Option Program) → Process → Cursor → Position
 position_at programs q c = position_in (slice_index_or programs q.place None) c
 
--- what an item is to a process that it leads to a position
-abbrev pub item_to : Item → Position → Next
-item_to Nothing to = nothing
-item_to (Plain a) to = plain a to
-item_to (Pivot a) to = crossing a to
-
--- what the step that comes, if one does, is to such a process
+-- what the step that comes, if one does, is to a process that it leads to a position
 abbrev pub step_to : Option Step → Position → Next
 step_to None to = nothing
 step_to (Some s) to = by_kind s.kind s.activity to

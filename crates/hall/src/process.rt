@@ -1,5 +1,4 @@
 // The processes of the hall's table.
-use activity::Activity;
 use program::Cursor;
 use protocol::Standing;
 
@@ -43,12 +42,4 @@ pub enum Claim {
     Commit {
         start: u16,
     },
-}
-
-// What a process has next in its program: nothing, a step that is no pivot, or a pivot.
-#[derive(Clone, Copy)]
-pub enum Item {
-    Nothing,
-    Plain(Activity),
-    Pivot(Activity),
 }

@@ -1,6 +1,6 @@
 // The rules of a step.
 ghost use Rattle.std.specs.Prelude.{◌≡◌, ◌+◌, ◌<◌, map, take, drop, vec_len, slice_index_or};
-ghost use Rattle.program.specs.Positions.{onward as led_on, alternative_of};
+ghost use Rattle.program.specs.Positions.{onward as led_on};
 ghost use Rattle.protocol.specs.declared.answer.Answer.TheVariants.{Stepped};
 ghost use Rattle.protocol.specs.Ahead.{nothing, plain, crossing};
 ghost use Rattle.protocol.specs.Log.{committed_under, returnable};
@@ -126,9 +126,7 @@ impl<S: Station> Tables<S> {
 
     // The process withdraws or goes back.
     pub(super) fn back(&mut self, p: Process) -> Turn
-        requires only { IsOnly p self.old.processes.items }
-        // The ordinal of the alternative that comes next fits the letter N, which holds one byte: so far the caller shows it.
-        requires few { alternative_of (here self.old.programs p) < 255 }
+        requires { IsOnly p self.old.processes.items }
         ensures { answered (model S.Station.view self.new) (Stepped result) ≡ backward S.Station.meaning (model S.Station.view self.old) (seen self.old.programs p) (with_nothing_left (model S.Station.view self.old) (seen self.old.programs p) p.standing) (returnable p.start self.old.log.items) }
     {
         match self.last_record(p.start) {
@@ -165,9 +163,7 @@ impl<S: Station> Tables<S> {
 
     // Nothing is left to take back.
     fn turn(&mut self, p: Process) -> Turn
-        requires only { IsOnly p self.old.processes.items }
-        // The ordinal of the alternative that comes next fits the letter N, which holds one byte: so far the caller shows it.
-        requires few { alternative_of (here self.old.programs p) < 255 }
+        requires { IsOnly p self.old.processes.items }
         ensures { answered (model S.Station.view self.new) (Stepped result) ≡ with_nothing_left (model S.Station.view self.old) (seen self.old.programs p) p.standing }
     {
         match p.standing {

@@ -1,22 +1,14 @@
-use Rattle.std.proofs.Common.{◌<◌, Option, IfSome, sym, ap, ◌∙◌, subst}
-use Rattle.std.specs.Option.{option_map}
-use Rattle.program.specs.Positions.{onward, alternative_of}
-use Rattle.protocol.specs.Hall.{Process}
-use Rattle.hall.specs.Model.{model, seen, here}
-use Rattle.hall.proofs.Entries.{only_found, room_go, room_cross, few_commits}
+use Rattle.std.proofs.Common.{rules, sym, ◌∙◌}
+use Rattle.program.specs.Positions.{onward}
+use Rattle.hall.specs.Model.{model, here}
+use Rattle.hall.proofs.Entries.{only_found, room_found, few_commits}
 use Rattle.hall.proofs.tables.Tables.step.Goals as goal
 
 pub back-requires : goal.back-requires
-back-requires g c =
-    let h = c.args.self.now in
-    let few : Option Process → Type 0 = λ o. IfSome o (λ q. alternative_of q.at < 255) in
-    record {
-      only = only_found g.S.Station.view h c.requires.held c.args.start c.in_ok-p.p (sym c.in_ok-p.ensures.ok_part ∙ c.process.ensures.there);
-      few = subst few (sym c.process.ensures.seen ∙ ap (option_map (seen h.programs)) c.in_ok-p.ensures.ok_part) c.requires.few;
-    }
+back-requires g c = only_found g.S.Station.view c.args.self.now c.requires c.args.start c.in_ok-p.p (sym c.in_ok-p.ensures.ok_part ∙ c.process.ensures.there)
 
 pub commit-requires : goal.commit-requires
-commit-requires g c = few_commits (model g.S.Station.view c.args.self.now) c.requires.held
+commit-requires g c = few_commits (model g.S.Station.view c.args.self.now) c.requires
 
 pub go-requires : goal.go-requires
 go-requires g c =
@@ -24,8 +16,8 @@ go-requires g c =
     let p = c.in_ok-p.p in
     let found = sym c.in_ok-p.ensures.ok_part ∙ c.process.ensures.there in
     record {
-      only = only_found g.S.Station.view h c.requires.held c.args.start p found;
-      room = room_go g.S.Station.view h c.requires.held c.args.start p found c.in_default-Plain.activity (onward (here h.programs p)) c.in_default-Plain.ensures;
+      only = only_found g.S.Station.view h c.requires c.args.start p found;
+      room = room_found g.S.Station.view h c.requires c.args.start p found c.next_step.result (onward (here h.programs p)) (search rules) c.next_step.ensures;
     }
 
 pub pivot-requires : goal.pivot-requires
@@ -34,6 +26,6 @@ pivot-requires g c =
     let p = c.in_ok-p.p in
     let found = sym c.in_ok-p.ensures.ok_part ∙ c.process.ensures.there in
     record {
-      only = only_found g.S.Station.view h c.requires.held c.args.start p found;
-      room = room_cross g.S.Station.view h c.requires.held c.args.start p found c.in_default-Pivot.activity (onward (here h.programs p)) c.in_default-Pivot.ensures;
+      only = only_found g.S.Station.view h c.requires c.args.start p found;
+      room = room_found g.S.Station.view h c.requires c.args.start p found c.next_step.result (onward (here h.programs p)) (search rules) c.next_step.ensures;
     }
