@@ -1,5 +1,6 @@
 -- From loops over the tables to the rules' own words.
-use Rattle.std.proofs.Common.{◌≡◌, ℕ, suc, ◌+◌, Bool, true, false, cond, ◌&&◌, ◌||◌, eqb, List, [], ◌∷◌, ◌++◌, map, length, take, drop, Some, None, Option, sym, refl, ap, ◌∙◌, arith}
+use Rattle.std.proofs.Common.{◌≡◌, ℕ, suc, ◌+◌, min, Bool, true, false, cond, ◌&&◌, ◌||◌, eqb, List, [], ◌∷◌, ◌++◌, map, length, take, drop, Some, None, Option, sym, refl, ap, ◌∙◌, arith}
+use Rattle.std.specs.List.{filter, fold, reduce}
 use Rattle.protocol.specs.declared.record.Record.{Record}
 use Rattle.protocol.specs.declared.standing.Aim.TheVariants.{Restart}
 use Rattle.protocol.specs.declared.standing.Standing.TheVariants.{Withdrawing}
@@ -9,11 +10,10 @@ use Rattle.protocol.specs.Hall.{least, lower, running, stand}
 use Rattle.protocol.specs.StepFunction as rules
 use Rattle.protocol.proofs.LastRecords.{from_none, LastIs, last_is}
 use Rattle.protocol.proofs.Members.{any_kept}
-use Rattle.protocol.proofs.Places as places
-use Rattle.protocol.proofs.Places.{least_by_loop}
+use Rattle.protocol.proofs.Places.{least_from, least_by_loop}
 use Rattle.program.specs.declared.program.Program.{Program}
 use Rattle.hall.specs.declared.process.Process.{Process}
-use Rattle.hall.specs.Claims.{latest, after_pivot, least_from, marked}
+use Rattle.hall.specs.Claims.{latest, after_pivot, marked}
 use Rattle.hall.specs.Model.{seen, all_seen, split_of}
 
 -- the last record, by a loop
@@ -89,13 +89,28 @@ own_pend n (r ∷ rs) = go (pivoted rs n) (owned n r) r.pivot refl refl (sym (an
 pub after_is : (n : ℕ) (log : List Record) → own n (drop (after_pivot n 0 0 log) log) ≡ from_pivot (own n log)
 after_is n log = ap (λ k. own n (drop k log)) (after_from n 0 0 log ∙ pend_none n log) ∙ own_pend n log
 
--- the least blocker
-least_seen : (ps : List (Option Program)) (f : Process → Bool) (g : protocol.Process → Bool) → ((q : Process) → f q ≡ g (seen ps q)) → (best : Option ℕ) (qs : List Process) → least_from f best qs ≡ places.least_from g best (all_seen ps qs)
-least_seen ps f g e best [] = refl
-least_seen ps f g e best (q ∷ qs) = ap (λ b. least_from f (lower b q.start best) qs) (e q) ∙ least_seen ps f g e (lower (g (seen ps q)) q.start best) qs
+-- the least blocker, as a search for the least of the numbers finds it
+module _ (ps : List (Option Program)) (f : Process → Bool) (g : protocol.Process → Bool) (e : (q : Process) → f q ≡ g (seen ps q)) where
+  lower_is : (best : ℕ) (qs : List Process) → Some (fold min best (map (λ q. q.start) (filter f qs))) ≡ least_from g (Some best) (all_seen ps qs)
+  lower_is best [] = refl
+  lower_is best (q ∷ qs) = go (f q) (e q) (λ b. lower_is b qs)
+    where
+      go : (b : Bool) → b ≡ g (seen ps q) → ((m : ℕ) → Some (fold min m (map (λ x. x.start) (filter f qs))) ≡ least_from g (Some m) (all_seen ps qs))
+          → Some (fold min best (map (λ x. x.start) (cond b (q ∷ filter f qs) (filter f qs)))) ≡ least_from g (lower (g (seen ps q)) q.start (Some best)) (all_seen ps qs)
+      go true h ih = ih (min best q.start) ∙ ap (λ m. least_from g (Some m) (all_seen ps qs)) (omega arith) ∙ ap (λ b. least_from g (lower b q.start (Some best)) (all_seen ps qs)) h
+      go false h ih = ih best ∙ ap (λ b. least_from g (lower b q.start (Some best)) (all_seen ps qs)) h
 
-pub least_is : (ps : List (Option Program)) (f : Process → Bool) (g : protocol.Process → Bool) → ((q : Process) → f q ≡ g (seen ps q)) → (qs : List Process) → least_from f None qs ≡ least g (all_seen ps qs)
-least_is ps f g e qs = least_seen ps f g e None qs ∙ least_by_loop g (all_seen ps qs)
+  first_is_from : (qs : List Process) → reduce min (map (λ q. q.start) (filter f qs)) ≡ least_from g None (all_seen ps qs)
+  first_is_from [] = refl
+  first_is_from (q ∷ qs) = go (f q) (e q) (first_is_from qs)
+    where
+      go : (b : Bool) → b ≡ g (seen ps q) → reduce min (map (λ x. x.start) (filter f qs)) ≡ least_from g None (all_seen ps qs)
+          → reduce min (map (λ x. x.start) (cond b (q ∷ filter f qs) (filter f qs))) ≡ least_from g (lower (g (seen ps q)) q.start None) (all_seen ps qs)
+      go true h ih = lower_is q.start qs ∙ ap (λ b. least_from g (lower b q.start None) (all_seen ps qs)) h
+      go false h ih = ih ∙ ap (λ b. least_from g (lower b q.start None) (all_seen ps qs)) h
+
+  pub least_is : (qs : List Process) → reduce min (map (λ q. q.start) (filter f qs)) ≡ least g (all_seen ps qs)
+  least_is qs = first_is_from qs ∙ least_by_loop g (all_seen ps qs)
 
 -- marking
 pub marked_is : (ps : List (Option Program)) (f : Process → Bool) (g : protocol.Process → Bool) → ((q : Process) → f q ≡ g (seen ps q)) → (qs : List Process) → all_seen ps (map (marked f) qs) ≡ map (rules.marked g) (all_seen ps qs)

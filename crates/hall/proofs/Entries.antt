@@ -17,11 +17,11 @@ use Rattle.protocol.specs.declared.record.Record.{Record}
 use Rattle.protocol.specs.declared.standing.Standing.{Standing}
 use Rattle.protocol.specs.declared.answer.Answer.TheVariants.{Stepped}
 use Rattle.protocol.specs.declared.answer.Turn.TheVariants.{Committed}
-use Rattle.protocol.specs.Ahead.{next, by_kind}
 use Rattle.protocol.specs.Log.{committed_under}
+use Rattle.protocol.specs.StepFunction.{committing}
+use Rattle.protocol.specs.Ahead.{next, by_kind}
 use Rattle.protocol.specs.Hall as protocol
 use Rattle.protocol.specs.Hall.{find, changed, without, body_of, beginning, answered}
-use Rattle.protocol.specs.StepFunction as rules
 use Rattle.protocol.specs.Held.{Held}
 use Rattle.protocol.proofs.TablesHeld.{rising, room_plain, room_pivot}
 use Rattle.protocol.proofs.Processes.{found_start}
@@ -100,15 +100,14 @@ first_is ps k r at = there (get_or ps k None) ∙ ap (λ x. outer (body_of x)) (
     there (Some p) = at p
 
 -- a commit
-pub commits_is : {S : Type 0} (h : protocol.Hall S) (p : protocol.Process) (o : Option ℕ) (h2 : protocol.Hall S) (l : List Record) (blocks marks : protocol.Process → Bool)
-    → None ≡ o → l ≡ map (committed_under p.start (h.committed + 1)) h.log
+pub concludes_is : {S : Type 0} (h : protocol.Hall S) (p : protocol.Process) (h2 : protocol.Hall S) (l : List Record)
+    → l ≡ map (committed_under p.start (h.committed + 1)) h.log
     → h2 ≡ record { station = h.station; log = l; processes = without p.start h.processes; programs = h.programs; given = h.given; committed = h.committed }
-    → answered record { station = h2.station; log = h2.log; processes = h2.processes; programs = h2.programs; given = h2.given; committed = h.committed + 1 } (Stepped (Committed (h.committed + 1))) ≡ rules.waits h blocks marks (rules.committing h p) o
-commits_is {S} h p o h2 l blocks marks e1 e2 e3 =
-    ap (λ (x : protocol.Hall S). answered record { station = x.station; log = x.log; processes = x.processes; programs = x.programs; given = x.given; committed = h.committed + 1 } (Stepped (Committed (h.committed + 1)))) e3
-    ∙ ap (λ y. answered record { station = h.station; log = y; processes = without p.start h.processes; programs = h.programs; given = h.given; committed = h.committed + 1 } (Stepped (Committed (h.committed + 1)))) e2
+    → answered record { station = h2.station; log = h2.log; processes = h2.processes; programs = h2.programs; given = h2.given; committed = h.committed + 1 } (Stepped (Committed (h.committed + 1))) ≡ committing h p
+concludes_is {S} h p h2 l e1 e2 =
+    ap (λ (x : protocol.Hall S). answered record { station = x.station; log = x.log; processes = x.processes; programs = x.programs; given = x.given; committed = h.committed + 1 } (Stepped (Committed (h.committed + 1)))) e2
+    ∙ ap (λ y. answered record { station = h.station; log = y; processes = without p.start h.processes; programs = h.programs; given = h.given; committed = h.committed + 1 } (Stepped (Committed (h.committed + 1)))) e1
     ∙ ap (λ n. answered record { station = h.station; log = map (committed_under p.start n) h.log; processes = without p.start h.processes; programs = h.programs; given = h.given; committed = n } (Stepped (Committed n))) (add-one h.committed)
-    ∙ ap (rules.waits h blocks marks (rules.committing h p)) e1
 
 -- the process that a call is of, once it is found: it is the only one of its number, and there is room for what it has next
 module _ {S T : Type 0} (view : S → T) (h : Tables S) (held : ∥ Held (model view h) ∥₁) (n : ℕ) (p : Process) (e : Some p ≡ first (λ q. eqb q.start n) (vec_items h.processes)) where

@@ -2,9 +2,7 @@
 use Rattle.std.proofs.Common.{◌≡◌, ℕ, ◌+◌, ◌<◌, ◌≤◌, Bool, true, false, cond, ◌&&◌, eqb, List, length, get_or, drop, Some, Option, sym, ◌∙◌}
 use Rattle.std.proofs.lemmas.List.{at_drop_more, at_drop_all}
 use Rattle.std.proofs.lemmas.Bool.{eq-eqb, ne_eqb}
-use Rattle.hall.specs.Claims.{latest, after_pivot, least_from, marked, withdrawn}
-use Rattle.protocol.specs.Hall.{lower}
-use Rattle.hall.specs.declared.process.Process.{Process}
+use Rattle.hall.specs.Claims.{latest, after_pivot}
 use Rattle.protocol.specs.declared.record.Record.{Record}
 
 module _ (n : ℕ) (rs : List Record) (i : ℕ) (best t : Option (ℕ × Record)) (inv : latest n i best (drop i rs) ≡ t) where
@@ -28,16 +26,3 @@ module _ (n : ℕ) (rs : List Record) (i best t : ℕ) (inv : after_pivot n i be
 
   pub pivot_done : length rs ≤ i → best ≡ t
   pivot_done h = sym (at_drop_all (after_pivot n i best) rs i h) ∙ inv
-
-module _ (p : Process → Bool) (qs : List Process) (i : ℕ) (best t : Option ℕ) (inv : least_from p best (drop i qs) ≡ t) where
-  -- at an element q, of which the test gave b
-  pub least_more : (q : Process) (b : Bool) (r : Option ℕ) → i < length qs → q ≡ get_or qs i q → b ≡ p q → r ≡ lower b q.start best → least_from p r (drop (i + 1) qs) ≡ t
-  least_more q b r h at test next =
-      let e : least_from p best (drop i qs) ≡ least_from p (lower (p (get_or qs i q)) (get_or qs i q).start best) (drop (i + 1) qs) = at_drop_more (least_from p best) qs i q h in cc
-
-  pub least_done : length qs ≤ i → best ≡ t
-  least_done h = sym (at_drop_all (least_from p best) qs i h) ∙ inv
-
--- what a turn writes
-pub marked_by : (p : Process → Bool) (q y : Process) (b : Bool) → y ≡ withdrawn b q → b ≡ p q → y ≡ marked p q
-marked_by p q y b e test = cc

@@ -7,25 +7,36 @@ use Rattle.protocol.specs.declared.standing.Aim.TheVariants.{Restart}
 use Rattle.protocol.specs.declared.standing.Standing.TheVariants.{Withdrawing}
 use Rattle.protocol.specs.Log.{any, owned, own}
 use Rattle.protocol.specs.Hall as protocol
-use Rattle.protocol.specs.Hall.{retreating, past_pivot, running, lower}
+use Rattle.protocol.specs.Hall.{retreating, past_pivot, running}
 use Rattle.protocol.specs.StepFunction.{holds_conflict, holds_any_conflict, stands_before_conflict}
 use Rattle.hall.specs.declared.process.Process.{Process}
-use Rattle.hall.specs.declared.process.Claim.{Claim}
-use Rattle.hall.specs.declared.process.Claim.TheVariants.{Back, Plain, Pivot, Alone, Commit}
+use Rattle.hall.specs.declared.claim.Claim.{Claim}
+use Rattle.hall.specs.declared.claim.Deed.{Deed}
+use Rattle.hall.specs.declared.claim.Deed.TheVariants.{Back, Plain, Pivot, Alone, Commit}
+
+-- whether a process of the number n and the standing st stops what a claim's process is about to do
+abbrev pub stops_deed : (ℕ → ℕ → Bool) → List Record → Process → Deed → ℕ → Standing → Bool
+stops_deed conflict log p (Back a from) n st = holds_conflict conflict n a (drop from log)
+stops_deed conflict log p (Plain a) n st = (past_pivot p.standing || (nat_lt p.start n || retreating st)) && holds_conflict conflict n a log
+stops_deed conflict log p (Pivot a from) n st = holds_conflict conflict n a log || holds_any_conflict conflict n log (own p.start (drop from log))
+stops_deed conflict log p Alone n st = not (past_pivot p.standing) && past_pivot st
+stops_deed conflict log p Commit n st = stands_before_conflict conflict n p.start log
+
+abbrev pub stops : (ℕ → ℕ → Bool) → List Record → Claim → ℕ → Standing → Bool
+stops conflict log c n st = stops_deed conflict log c.process c.deed n st
 
 abbrev pub blocks : (ℕ → ℕ → Bool) → List Record → Claim → ℕ → Standing → Bool
-blocks conflict log (Back m a from) n st = not (n == m) && holds_conflict conflict n a (drop from log)
-blocks conflict log (Plain m past a) n st = not (n == m) && ((past || (nat_lt m n || retreating st)) && holds_conflict conflict n a log)
-blocks conflict log (Pivot m past a from) n st = not (n == m) && (holds_conflict conflict n a log || holds_any_conflict conflict n log (own m (drop from log)))
-blocks conflict log (Alone m past) n st = not (n == m) && (not past && past_pivot st)
-blocks conflict log (Commit m) n st = not (n == m) && stands_before_conflict conflict n m log
+blocks conflict log c n st = not (n == c.process.start) && stops conflict log c n st
+
+abbrev pub marks_for : Process → Deed → ℕ → Bool
+marks_for p (Back a from) n = true
+marks_for p (Plain a) n = true
+marks_for p (Pivot a from) n = past_pivot p.standing || nat_lt p.start n
+marks_for p Alone n = false
+marks_for p Commit n = false
 
 abbrev pub marks : Claim → ℕ → Bool
-marks (Back m a from) n = true
-marks (Plain m past a) n = true
-marks (Pivot m past a from) n = past || nat_lt m n
-marks (Alone m past) n = false
-marks (Commit m) n = false
+marks c n = marks_for c.process c.deed n
 
 abbrev pub blocker : (ℕ → ℕ → Bool) → List Record → Claim → protocol.Process → Bool
 blocker conflict log c q = blocks conflict log c q.start q.standing
@@ -51,11 +62,6 @@ moved p s to = record p { standing = s; cursor = to }
 abbrev pub put : Process → Process → Process
 put p q = cond (q.start == p.start) p q
 
--- the least one, with a best so far, as a loop finds it
-abbrev pub least_from : (Process → Bool) → Option ℕ → List Process → Option ℕ
-least_from t best [] = best
-least_from t best (q ∷ qs) = least_from t (lower (t q) q.start best) qs
-
 -- what a loop over the log finds: the last record of the number n and its place, or else the best so far
 abbrev pub latest : ℕ → ℕ → Option (ℕ × Record) → List Record → Option (ℕ × Record)
 latest n i best [] = best
@@ -67,8 +73,5 @@ after_pivot n i best [] = best
 after_pivot n i best (r ∷ rs) = after_pivot n (i + 1) (cond (r.start == n && r.pivot) (i + 1) best) rs
 
 -- a record is of the process n, and the process m has a later one in conflict
-abbrev pub follows : (ℕ → ℕ → Bool) → ℕ → ℕ → List Record → Bool
-follows conflict m a log = any (λ x. owned m x && conflict a x.activity.number) log
-
 abbrev pub leads : (ℕ → ℕ → Bool) → ℕ → ℕ → Record → List Record → Bool
-leads conflict n m r rs = owned n r && follows conflict m r.activity.number rs
+leads conflict n m r rs = owned n r && any (λ x. owned m x && conflict r.activity.number x.activity.number) rs
