@@ -1,5 +1,5 @@
 -- Who blocks a claim, and whom it marks.
-use Rattle.std.specs.Prelude.{ℕ, ◌+◌, Bool, true, false, cond, not, ◌&&◌, ◌||◌, List, [], ◌∷◌, drop, Some, Option, ◌==◌, nat_lt}
+use Rattle.std.specs.Prelude.{ℕ, Bool, true, false, cond, not, ◌&&◌, ◌||◌, List, drop, ◌==◌, nat_lt}
 use Rattle.program.specs.declared.cursor.Cursor.{Cursor}
 use Rattle.protocol.specs.declared.record.Record.{Record}
 use Rattle.protocol.specs.declared.standing.Standing.{Standing}
@@ -61,16 +61,6 @@ moved p s to = record p { standing = s; cursor = to }
 -- the process p in place of the one of its number
 abbrev pub put : Process → Process → Process
 put p q = cond (q.start == p.start) p q
-
--- what a loop over the log finds: the last record of the number n and its place, or else the best so far
-abbrev pub latest : ℕ → ℕ → Option (ℕ × Record) → List Record → Option (ℕ × Record)
-latest n i best [] = best
-latest n i best (r ∷ rs) = latest n (i + 1) (cond (r.start == n) (Some (i, r)) best) rs
-
--- the place after the last pivot of the number n, or else the best so far
-abbrev pub after_pivot : ℕ → ℕ → ℕ → List Record → ℕ
-after_pivot n i best [] = best
-after_pivot n i best (r ∷ rs) = after_pivot n (i + 1) (cond (r.start == n && r.pivot) (i + 1) best) rs
 
 -- a record is of the process n, and the process m has a later one in conflict
 abbrev pub leads : (ℕ → ℕ → Bool) → ℕ → ℕ → Record → List Record → Bool

@@ -11,17 +11,6 @@ use crate::process::Process;
 use protocol::Record;
 use station::Station;
 
-// The next place where the record is a pivot of that number, or else the best so far.
-fn pivot_place(r: Record, start: u16, next: usize, best: usize) -> usize
-    ensures { result ≡ (if nat_eq r.start start && r.pivot then next else best) }
-{
-    if r.start == start && r.pivot {
-        next
-    } else {
-        best
-    }
-}
-
 impl<S: Station> Tables<S> {
     // The process of that number.
     pub(super) fn process(&self, start: u16) -> Option<Process>
@@ -36,25 +25,17 @@ impl<S: Station> Tables<S> {
         ensures value { split_of self.now.log.items result ≡ last_of start self.now.log.items }
         ensures item { IfSome result (λ s. s.0 < vec_len self.now.log) }
     {
-        let mut best: Option<(usize, Record)> = None;
-        for i in 0..self.log.len() {
-            let r = self.log[i];
-            if r.start == start {
-                best = Some((i, r));
-            }
-        }
-        best
+        let k = self.log.iter().rposition(|r| r.start == start)?;
+        Some((k, self.log[k]))
     }
 
     // The place after the last pivot of that number, or 0.
     pub(super) fn after_pivot(&self, start: u16) -> usize
         ensures { own start (drop result self.now.log.items) ≡ from_pivot (own start self.now.log.items) }
     {
-        let mut best = 0;
-        for i in 0..self.log.len() {
-            let r = self.log[i];
-            best = pivot_place(r, start, i + 1, best);
+        match self.log.iter().rposition(|r| r.start == start && r.pivot) {
+            Some(k) => k + 1,
+            None => 0,
         }
-        best
     }
 }
