@@ -1,5 +1,5 @@
-pub mod Any
 pub mod Bridges
+pub mod Claimed
 pub mod Entries
+pub mod Lasts
 pub mod Maps
-pub mod Seeks

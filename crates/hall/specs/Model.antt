@@ -1,5 +1,6 @@
 -- What the hall's tables stand for.
-use Rattle.std.specs.Prelude.{ℕ, ◌+◌, List, map, take, drop, Some, None, vec_items, Option, slice_index_or}
+use Rattle.std.specs.Prelude.{◌≡◌, ℕ, ◌+◌, List, map, take, drop, Some, None, vec_items, Option, slice_index_or}
+use Rattle.std.specs.List.{All}
 use Rattle.program.specs.declared.program.Program.{Program}
 use Rattle.program.specs.declared.cursor.Cursor.{Cursor}
 use Rattle.program.specs.Grammar.{Body, finish}
@@ -9,10 +10,8 @@ use Rattle.program.specs.Places.{tree, position}
 use Rattle.protocol.specs.declared.record.Record.{Record}
 use Rattle.protocol.specs.Log.{Split}
 use Rattle.protocol.specs.Hall as protocol
-use Rattle.protocol.specs.Ahead.{Next, nothing, plain, crossing, by_kind}
+use Rattle.protocol.specs.Ahead.{Next, nothing, by_kind}
 use Rattle.hall.specs.declared.process.Process.{Process}
-use Rattle.hall.specs.declared.process.Item.{Item}
-use Rattle.hall.specs.declared.process.Item.TheVariants.{Nothing, Plain, Pivot}
 use Rattle.hall.specs.declared.tables.Tables.{Tables}
 
 -- a cursor in the program at a place
@@ -35,10 +34,9 @@ all_seen programs qs = map (seen programs) qs
 abbrev pub model : {S T : Type 0} → (S → T) → Tables S → protocol.Hall T
 model view h = record { station = view h.station; log = vec_items h.log; processes = all_seen h.programs (vec_items h.processes); programs = map body_in h.programs; given = h.given; committed = h.committed }
 
--- what a search found, seen
-abbrev pub seen_at : List (Option Program) → Option (ℕ × Process) → Option protocol.Process
-seen_at programs None = None
-seen_at programs (Some s) = Some (seen programs s.1)
+-- no other process of the table has the number
+abbrev pub IsOnly : Process → List Process → Type 0
+IsOnly p qs = All (λ q. q.start ≡ p.start → q ≡ p) qs
 
 -- the record at a place, with what stands before and after it
 abbrev pub split_of : List Record → Option (ℕ × Record) → Option Split
@@ -49,13 +47,7 @@ split_of log (Some s) = Some record { before = take s.0 log; at = s.1; after = d
 abbrev pub position_at : List (Option Program) → Process → Cursor → Position
 position_at programs q c = position_in (slice_index_or programs q.place None) c
 
--- what an item is to a process that it leads to a position
-abbrev pub item_to : Item → Position → Next
-item_to Nothing to = nothing
-item_to (Plain a) to = plain a to
-item_to (Pivot a) to = crossing a to
-
--- what the step that comes, if one does, is to such a process
+-- what the step that comes, if one does, is to a process that it leads to a position
 abbrev pub step_to : Option Step → Position → Next
 step_to None to = nothing
 step_to (Some s) to = by_kind s.kind s.activity to

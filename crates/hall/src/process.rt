@@ -1,5 +1,4 @@
 // The processes of the hall's table.
-use activity::Activity;
 use program::Cursor;
 use protocol::Standing;
 
@@ -10,45 +9,4 @@ pub struct Process {
     pub place: u8,
     pub standing: Standing,
     pub cursor: Cursor,
-}
-
-// What a step of a process waits for, and whom it marks.
-#[derive(Clone, Copy)]
-pub enum Claim {
-    // Those with a record from a place on in conflict with the activity.
-    Back {
-        start: u16,
-        activity: u8,
-        from: usize,
-    },
-    // Those with a record in conflict with the activity.
-    Plain {
-        start: u16,
-        past: bool,
-        activity: u8,
-    },
-    // Those with a record in conflict with the activity, or with one of the process from a place on.
-    Pivot {
-        start: u16,
-        past: bool,
-        activity: u8,
-        from: usize,
-    },
-    // Those past their pivot.
-    Alone {
-        start: u16,
-        past: bool,
-    },
-    // Those with a record before a conflicting one of the process.
-    Commit {
-        start: u16,
-    },
-}
-
-// What a process has next in its program: nothing, a step that is no pivot, or a pivot.
-#[derive(Clone, Copy)]
-pub enum Item {
-    Nothing,
-    Plain(Activity),
-    Pivot(Activity),
 }

@@ -1,38 +1,23 @@
 // What the tables have where.
-ghost use Rattle.std.specs.Prelude.{◌≡◌, ◌<◌, ◌&&◌, drop, IfSome, if◌then◌else◌, vec_len, nat_eq, slice_index_or};
+ghost use Rattle.std.specs.Prelude.{◌≡◌, ◌==◌, ◌<◌, ◌&&◌, drop, IfSome, if◌then◌else◌, vec_len, nat_eq};
+ghost use Rattle.std.specs.List.{find as first};
+ghost use Rattle.std.specs.Option.{option_map};
 ghost use Rattle.protocol.specs.Log.{own, from_pivot, last_of};
 ghost use Rattle.protocol.specs.Hall.{find};
-ghost use Rattle.hall.specs.Model.{model, seen_at, split_of};
+ghost use Rattle.hall.specs.Model.{model, seen, split_of};
 
 use super::Tables;
 use crate::process::Process;
 use protocol::Record;
 use station::Station;
 
-// The next place where the record is a pivot of that number, or else the best so far.
-fn pivot_place(r: Record, start: u16, next: usize, best: usize) -> usize
-    ensures { result ≡ (if nat_eq r.start start && r.pivot then next else best) }
-{
-    if r.start == start && r.pivot {
-        next
-    } else {
-        best
-    }
-}
-
 impl<S: Station> Tables<S> {
-    // The process of that number, with its place.
-    pub(super) fn place(&self, start: u16) -> Option<(usize, Process)>
-        ensures value { seen_at self.now.programs result ≡ find start (model S.Station.view self.now).processes }
-        ensures item { IfSome result (λ s. (s.0 < vec_len self.now.processes) × (s.1 ≡ slice_index_or self.now.processes.items s.0 s.1)) }
+    // The process of that number.
+    pub(super) fn process(&self, start: u16) -> Option<Process>
+        ensures there { result ≡ first (λ q. q.start == start) self.now.processes.items }
+        ensures seen { option_map (seen self.now.programs) result ≡ find start (model S.Station.view self.now).processes }
     {
-        for i in 0..self.processes.len() {
-            let q = self.processes[i];
-            if q.start == start {
-                return Some((i, q));
-            }
-        }
-        None
+        self.processes.iter().find(|q| q.start == start).copied()
     }
 
     // The last record of that number, with its place.
@@ -40,25 +25,17 @@ impl<S: Station> Tables<S> {
         ensures value { split_of self.now.log.items result ≡ last_of start self.now.log.items }
         ensures item { IfSome result (λ s. s.0 < vec_len self.now.log) }
     {
-        let mut best: Option<(usize, Record)> = None;
-        for i in 0..self.log.len() {
-            let r = self.log[i];
-            if r.start == start {
-                best = Some((i, r));
-            }
-        }
-        best
+        let k = self.log.iter().rposition(|r| r.start == start)?;
+        Some((k, self.log[k]))
     }
 
     // The place after the last pivot of that number, or 0.
     pub(super) fn after_pivot(&self, start: u16) -> usize
         ensures { own start (drop result self.now.log.items) ≡ from_pivot (own start self.now.log.items) }
     {
-        let mut best = 0;
-        for i in 0..self.log.len() {
-            let r = self.log[i];
-            best = pivot_place(r, start, i + 1, best);
+        match self.log.iter().rposition(|r| r.start == start && r.pivot) {
+            Some(k) => k + 1,
+            None => 0,
         }
-        best
     }
 }

@@ -1,18 +1,17 @@
 // The rules of a step.
-ghost use Rattle.std.specs.Prelude.{◌≡◌, ◌+◌, ◌<◌, map, take, drop, Ok, vec_len, slice_index_or};
-ghost use Rattle.serial.specs.Sorts.{Pairwise};
-ghost use Rattle.program.specs.Positions.{onward as led_on, alternative_of};
+ghost use Rattle.std.specs.Prelude.{◌≡◌, ◌+◌, ◌<◌, map, take, drop, IfSome, vec_len};
+ghost use Rattle.program.specs.Positions.{onward as led_on};
 ghost use Rattle.protocol.specs.declared.answer.Served.TheVariants.{Stepped};
 ghost use Rattle.protocol.specs.Ahead.{nothing, plain, crossing};
 ghost use Rattle.protocol.specs.Log.{committed_under, returnable};
-ghost use Rattle.protocol.specs.Hall.{answered, failed, standing_after};
-ghost use Rattle.protocol.specs.StepFunction.{performed, undone, backward, forward};
-ghost use Rattle.hall.specs.Model.{model, seen, here};
-ghost use Rattle.hall.specs.Rules.{with_nothing_left, pivot_unless_met};
+ghost use Rattle.protocol.specs.Hall.{answered, failed, standing_after, Outcome};
+ghost use Rattle.protocol.specs.StepFunction.{performed, undone, committing, backward, forward};
+ghost use Rattle.hall.specs.Model.{model, seen, here, IsOnly};
+ghost use Rattle.hall.specs.Rules.{with_nothing_left, pivot_unless_met, claimed};
 
 use super::Tables;
-use super::blockers::is_past;
-use crate::process::{Claim, Process};
+use crate::claim::{Claim, Deed};
+use crate::process::Process;
 use activity::Activity;
 use protocol::{Aim, Direction, Record, Standing, Turn};
 use station::Station;
@@ -40,10 +39,8 @@ fn after_step(pivot: bool, s: Standing) -> Standing
 
 impl<S: Station> Tables<S> {
     // The step is performed and recorded, or fails.
-    fn perform(&mut self, i: usize, p: Process, pivot: bool, activity: Activity) -> Turn
-        requires within { i < vec_len self.old.processes }
-        requires at { p ≡ slice_index_or self.old.processes.items i p }
-        requires rising { Pairwise (λ a b. a.start < b.start) (model S.Station.view self.old).processes }
+    fn perform(&mut self, p: Process, pivot: bool, activity: Activity) -> Turn
+        requires only { IsOnly p self.old.processes.items }
         requires room { vec_len self.old.log < 1024 }
         ensures { answered (model S.Station.view self.new) (Ok (Stepped result)) ≡ performed (model S.Station.view self.old) (seen self.old.programs p) pivot activity (led_on (here self.old.programs p)) (S.Station.meaning.performed (S.Station.view self.old.station) activity) }
     {
@@ -57,111 +54,88 @@ impl<S: Station> Tables<S> {
                     commit: 0,
                     pivot,
                 });
-                self.relocate(i, p, after_step(pivot, p.standing), to);
+                self.relocate(p, after_step(pivot, p.standing), to);
                 Turn::Done(answer)
             }
             None => {
-                self.restand(i, p, after_failure(p.standing));
+                self.relocate(p, after_failure(p.standing), p.cursor);
                 Turn::Failed
             }
         }
     }
 
+    // The turn of a process that waits: those that block what it is about to do are marked.
+    fn waits(&mut self, process: Process, deed: Deed) -> Option<Turn>
+        ensures waits { IfSome result (λ turn. (on : Outcome S.Station.State) → answered (model S.Station.view self.new) (Ok (Stepped turn)) ≡ claimed S.Station.meaning (model S.Station.view self.old) (record { process = process; deed = deed }) on) }
+        ensures free { result ≡ None → (on : Outcome S.Station.State) → on ≡ claimed S.Station.meaning (model S.Station.view self.old) (record { process = process; deed = deed }) on }
+        ensures same { result ≡ None → self.new ≡ self.old }
+    {
+        let claim = Claim { process, deed };
+        let first = self.first_blocker(claim)?;
+        self.mark(claim);
+        Some(Turn::Wait(first))
+    }
+
     // A step that is no pivot is next.
-    pub(super) fn go(&mut self, i: usize, p: Process, activity: Activity) -> Turn
-        requires within { i < vec_len self.old.processes }
-        requires at { p ≡ slice_index_or self.old.processes.items i p }
-        requires rising { Pairwise (λ a b. a.start < b.start) (model S.Station.view self.old).processes }
+    pub(super) fn go(&mut self, p: Process, activity: Activity) -> Turn
+        requires only { IsOnly p self.old.processes.items }
         requires room { vec_len self.old.log < 1024 }
         ensures { answered (model S.Station.view self.new) (Ok (Stepped result)) ≡ forward S.Station.meaning (model S.Station.view self.old) (seen self.old.programs p) (plain activity (led_on (here self.old.programs p))) }
     {
-        let c = Claim::Plain {
-            start: p.start,
-            past: is_past(p.standing),
+        let deed = Deed::Plain {
             activity: activity.number,
         };
-        match self.first_blocker(c) {
-            Some(first) => {
-                self.mark(c);
-                Turn::Wait(first)
-            }
-            None => self.perform(i, p, false, activity),
+        if let Some(turn) = self.waits(p, deed) {
+            return turn;
         }
+        self.perform(p, false, activity)
     }
 
     // A pivot, once no other process past its pivot blocks it: those whose records it meets do.
-    fn cross(&mut self, i: usize, p: Process, activity: Activity) -> Turn
-        requires within { i < vec_len self.old.processes }
-        requires at { p ≡ slice_index_or self.old.processes.items i p }
-        requires rising { Pairwise (λ a b. a.start < b.start) (model S.Station.view self.old).processes }
+    fn cross(&mut self, p: Process, activity: Activity) -> Turn
+        requires only { IsOnly p self.old.processes.items }
         requires room { vec_len self.old.log < 1024 }
         ensures { answered (model S.Station.view self.new) (Ok (Stepped result)) ≡ pivot_unless_met S.Station.meaning (model S.Station.view self.old) (seen self.old.programs p) activity (led_on (here self.old.programs p)) }
     {
-        let c = Claim::Pivot {
-            start: p.start,
-            past: is_past(p.standing),
+        let deed = Deed::Pivot {
             activity: activity.number,
             from: self.after_pivot(p.start),
         };
-        match self.first_blocker(c) {
-            Some(first) => {
-                self.mark(c);
-                Turn::Wait(first)
-            }
-            None => self.perform(i, p, true, activity),
+        if let Some(turn) = self.waits(p, deed) {
+            return turn;
         }
+        self.perform(p, true, activity)
     }
 
     // A pivot is next: of a running process, it waits first for another past its pivot, which nobody is marked for.
-    pub(super) fn pivot(&mut self, i: usize, p: Process, activity: Activity) -> Turn
-        requires within { i < vec_len self.old.processes }
-        requires at { p ≡ slice_index_or self.old.processes.items i p }
-        requires rising { Pairwise (λ a b. a.start < b.start) (model S.Station.view self.old).processes }
+    pub(super) fn pivot(&mut self, p: Process, activity: Activity) -> Turn
+        requires only { IsOnly p self.old.processes.items }
         requires room { vec_len self.old.log < 1024 }
         ensures { answered (model S.Station.view self.new) (Ok (Stepped result)) ≡ forward S.Station.meaning (model S.Station.view self.old) (seen self.old.programs p) (crossing activity (led_on (here self.old.programs p))) }
     {
-        let c = Claim::Alone {
-            start: p.start,
-            past: is_past(p.standing),
-        };
-        match self.first_blocker(c) {
-            Some(first) => {
-                self.mark(c);
-                Turn::Wait(first)
-            }
-            None => self.cross(i, p, activity),
+        if let Some(turn) = self.waits(p, Deed::Alone) {
+            return turn;
         }
+        self.cross(p, activity)
     }
 
     // The process withdraws or goes back.
-    pub(super) fn back(&mut self, i: usize, p: Process) -> Turn
-        requires within { i < vec_len self.old.processes }
-        requires at { p ≡ slice_index_or self.old.processes.items i p }
-        requires rising { Pairwise (λ a b. a.start < b.start) (model S.Station.view self.old).processes }
-        // The ordinal of the alternative that comes next fits the letter N, which holds one byte: so far the caller shows it.
-        requires few { alternative_of (here self.old.programs p) < 255 }
+    pub(super) fn back(&mut self, p: Process) -> Turn
+        requires { IsOnly p self.old.processes.items }
         ensures { answered (model S.Station.view self.new) (Ok (Stepped result)) ≡ backward S.Station.meaning (model S.Station.view self.old) (seen self.old.programs p) (with_nothing_left (model S.Station.view self.old) (seen self.old.programs p) p.standing) (returnable p.start self.old.log.items) }
     {
-        match self.last_record(p.start) {
-            Some((k, r)) => {
-                if r.pivot {
-                    return self.turn(i, p);
-                }
-                let c = Claim::Back {
-                    start: p.start,
-                    activity: r.activity.number,
-                    from: k + 1,
-                };
-                match self.first_blocker(c) {
-                    Some(first) => {
-                        self.mark(c);
-                        Turn::Wait(first)
-                    }
-                    None => self.undo(k, r),
-                }
-            }
-            None => self.turn(i, p),
+        let (k, r) = match self.last_record(p.start) {
+            Some((k, r)) if !r.pivot => (k, r),
+            _ => return self.turn(p),
+        };
+        let deed = Deed::Back {
+            activity: r.activity.number,
+            from: k + 1,
+        };
+        if let Some(turn) = self.waits(p, deed) {
+            return turn;
         }
+        self.undo(k, r)
     }
 
     // The record is taken back at the station, and removed.
@@ -175,55 +149,50 @@ impl<S: Station> Tables<S> {
     }
 
     // Nothing is left to take back.
-    fn turn(&mut self, i: usize, p: Process) -> Turn
-        requires within { i < vec_len self.old.processes }
-        requires at { p ≡ slice_index_or self.old.processes.items i p }
-        requires rising { Pairwise (λ a b. a.start < b.start) (model S.Station.view self.old).processes }
-        // The ordinal of the alternative that comes next fits the letter N, which holds one byte: so far the caller shows it.
-        requires few { alternative_of (here self.old.programs p) < 255 }
+    fn turn(&mut self, p: Process) -> Turn
+        requires { IsOnly p self.old.processes.items }
         ensures { answered (model S.Station.view self.new) (Ok (Stepped result)) ≡ with_nothing_left (model S.Station.view self.old) (seen self.old.programs p) p.standing }
     {
         match p.standing {
             Standing::Withdrawing(Aim::Restart) => {
                 let to = self.first(p.place);
-                self.relocate(i, p, Standing::Running, to);
+                self.relocate(p, Standing::Running, to);
                 Turn::Restarted
             }
             Standing::Withdrawing(Aim::End) => {
-                self.leave(i, p);
+                self.leave(p.start);
                 Turn::Gone
             }
             _ => {
                 let k = self.alternative(p) + 1;
                 let to = self.next_alternative(p);
-                self.relocate(i, p, Standing::PastPivot(Direction::Forward), to);
+                self.relocate(p, Standing::PastPivot(Direction::Forward), to);
                 Turn::Next(k as u8)
             }
         }
     }
 
     // Nothing is next: the process commits, once nobody has a record before a conflicting one of it.
-    pub(super) fn commit(&mut self, i: usize, p: Process) -> Turn
-        requires within { i < vec_len self.old.processes }
-        requires at { p ≡ slice_index_or self.old.processes.items i p }
-        requires rising { Pairwise (λ a b. a.start < b.start) (model S.Station.view self.old).processes }
-        requires few { self.old.committed < 65536 }
+    pub(super) fn commit(&mut self, p: Process) -> Turn
+        requires { self.old.committed < 65536 }
         ensures { answered (model S.Station.view self.new) (Ok (Stepped result)) ≡ forward S.Station.meaning (model S.Station.view self.old) (seen self.old.programs p) nothing }
     {
-        let c = Claim::Commit { start: p.start };
-        match self.first_blocker(c) {
-            Some(first) => {
-                self.mark(c);
-                Turn::Wait(first)
-            }
-            None => {
-                let n = self.committed + 1;
-                number_records(self.log.as_mut_slice(), p.start, n);
-                self.leave(i, p);
-                self.committed = n;
-                Turn::Committed(n)
-            }
+        if let Some(turn) = self.waits(p, Deed::Commit) {
+            return turn;
         }
+        self.conclude(p)
+    }
+
+    // The records of the process get the next commit number, and it leaves.
+    fn conclude(&mut self, p: Process) -> Turn
+        requires { self.old.committed < 65536 }
+        ensures { answered (model S.Station.view self.new) (Ok (Stepped result)) ≡ committing (model S.Station.view self.old) (seen self.old.programs p) }
+    {
+        let n = self.committed + 1;
+        number_records(self.log.as_mut_slice(), p.start, n);
+        self.leave(p.start);
+        self.committed = n;
+        Turn::Committed(n)
     }
 }
 

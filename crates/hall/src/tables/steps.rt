@@ -1,52 +1,60 @@
 // A step: one match on the process's standing and what its program has next. And cancelling.
-ghost use Rattle.std.specs.Prelude.{◌≡◌, ◌<◌, All};
-ghost use Rattle.program.specs.Positions.{alternative_of};
+ghost use Rattle.std.specs.Prelude.{◌≡◌};
 ghost use Rattle.protocol.specs.Hall.{answered};
 ghost use Rattle.protocol.specs.Call.{stepping, cancelling};
 ghost use Rattle.protocol.specs.CallFunction.{outcome};
 ghost use Rattle.protocol.specs.Held.{Held};
-ghost use Rattle.hall.specs.Model.{model, here};
+ghost use Rattle.hall.specs.Model.{model};
 ghost use Rattle.hall.specs.Replies.{step_reply, cancel_reply};
 
 use super::Tables;
-use crate::process::Item;
+use program::{Kind, Step};
 use protocol::{Aim, Direction, Refusal, Standing, Turn};
 use station::Station;
 
 impl<S: Station> Tables<S> {
     // A step of the process of a start number.
     pub(crate) fn step(&mut self, start: u16) -> Result<Turn, Refusal>
-        requires held { ∥ Held (model S.Station.view self.old) ∥₁ }
-        // The ordinal of the alternative that comes next fits the letter N, which holds one byte: so far the caller shows it.
-        requires few { All (λ p. alternative_of (here self.old.programs p) < 255) self.old.processes.items }
+        requires { ∥ Held (model S.Station.view self.old) ∥₁ }
         ensures { answered (model S.Station.view self.new) (step_reply result) ≡ outcome S.Station.meaning (model S.Station.view self.old) (stepping start) }
     {
-        let Some(entry) = self.place(start) else {
-            return Err(Refusal::NoProcess);
-        };
-        let (i, p) = entry;
-        Ok(match (p.standing, self.next_item(p)) {
+        let p = self.process(start).ok_or(Refusal::NoProcess)?;
+        // one match on the standing together with what is next: the rules ask for it
+        Ok(match (p.standing, self.next_step(p)) {
             (Standing::Withdrawing(_), _) | (Standing::PastPivot(Direction::Back), _) => self.back(
-                i, p,
+                p,
             ),
-            (_, Item::Nothing) => self.commit(i, p),
-            (_, Item::Plain(activity)) => self.go(i, p, activity),
-            (_, Item::Pivot(activity)) => self.pivot(i, p, activity),
+            (_, None) => self.commit(p),
+            (
+                _,
+                Some(
+                    Step {
+                        kind: Kind::Pivot,
+                        activity,
+                    },
+                ),
+            ) => self.pivot(p, activity),
+            (
+                _,
+                Some(
+                    Step {
+                        kind: Kind::Compensatable | Kind::Retriable,
+                        activity,
+                    },
+                ),
+            ) => self.go(p, activity),
         })
     }
 
     // A running process is set to withdraw, and then to end.
     pub(crate) fn cancel(&mut self, start: u16) -> Result<(), Refusal>
-        requires held { ∥ Held (model S.Station.view self.old) ∥₁ }
+        requires { ∥ Held (model S.Station.view self.old) ∥₁ }
         ensures { answered (model S.Station.view self.new) (cancel_reply result) ≡ outcome S.Station.meaning (model S.Station.view self.old) (cancelling start) }
     {
-        let Some(entry) = self.place(start) else {
-            return Err(Refusal::NoProcess);
-        };
-        let (i, p) = entry;
+        let p = self.process(start).ok_or(Refusal::NoProcess)?;
         match p.standing {
             Standing::Running => {
-                self.restand(i, p, Standing::Withdrawing(Aim::End));
+                self.relocate(p, Standing::Withdrawing(Aim::End), p.cursor);
                 Ok(())
             }
             Standing::Withdrawing(_) => Err(Refusal::IsWithdrawing),

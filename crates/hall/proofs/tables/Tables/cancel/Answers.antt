@@ -1,7 +1,6 @@
-use Rattle.std.proofs.Common.{rules}
-use Rattle.protocol.proofs.TablesHeld.{rising}
-use Rattle.hall.specs.Model.{model}
+use Rattle.std.proofs.Common.{sym, ◌∙◌}
+use Rattle.hall.proofs.Entries.{only_found}
 use Rattle.hall.proofs.tables.Tables.cancel.Goals as goal
 
-pub restand-requires : goal.restand-requires
-restand-requires g c = record { within = search rules; at = search rules; rising = rising (model g.S.Station.view c.args.self.now) c.requires.held }
+pub relocate-requires : goal.relocate-requires
+relocate-requires g c = only_found g.S.Station.view c.args.self.now c.requires c.args.start c.in_ok-p.p (sym c.in_ok-p.ensures.ok_part ∙ c.process.ensures.there)

@@ -1,21 +1,21 @@
-use Rattle.std.proofs.Common.{◌<◌, ◌≤◌, length, ap, ◌∙◌, arith}
-use Rattle.hall.specs.Model.{split_of}
-use Rattle.hall.proofs.Bridges.{latest_is}
-use Rattle.hall.proofs.Seeks.{latest_here, latest_on, latest_done}
+use Rattle.std.proofs.Common.{◌≡◌, ◌+◌, true, None, rules}
+use Rattle.std.proofs.iter.runs.Made.{chains}
+use Rattle.protocol.specs.Log.{owned, last_of}
+use Rattle.hall.proofs.Lasts.{NoneFrom, last_none, last_there}
 use Rattle.hall.proofs.tables.Tables.last_record.Goals as goal
-use Rattle.hall.proofs.tables.Tables.last_record.Goals.{then-r-start, else-r-start}
 
-pub loop-i-preserved : goal.loop-i-preserved
-loop-i-preserved g c =
-    let rs = c.args.self.now.log in
-    let within : c.loop-i.i < length rs.items = omega (arith, rs.ok.0) in
-    elim c.if-r-start.branch [
-      | then-r-start w ↦ rw w.best-is (latest_here _ rs.items _ _ _ c.loop-i.invariant.0 c.index-r.result.now within c.index-r.ensures w.if-r-start.true, omega arith)
-      | else-r-start w ↦ rw w.best-is (latest_on _ rs.items _ _ _ c.loop-i.invariant.0 c.index-r.result.now within c.index-r.ensures w.if-r-start.false, c.loop-i.invariant.1)
-    ]
+pub returns-in_err-k-clause-value : goal.returns-in_err-k-clause-value
+returns-in_err-k-clause-value g c =
+    let rs = c.args.self.now.log.items in
+    let none : NoneFrom (owned c.args.start) 0 rs = search (rules, chains) in
+    let is : None ≡ last_of c.args.start rs = last_none c.args.start rs none in
+    search rules
 
 pub returns : goal.returns
 returns g c =
-    let rs = c.args.self.now.log in
-    let past : length rs.items ≤ c.loop-i.i = omega (arith, rs.ok.0) in
-    record { value = ap (split_of rs.items) (latest_done _ rs.items _ _ _ c.loop-i.invariant.0 past) ∙ latest_is c.args.start rs.items; item = c.loop-i.invariant.1 }
+    let rs = c.args.self.now.log.items in
+    let k = c.in_ok-k.k in
+    let r = c.index.result.now in
+    let here : owned c.args.start r ≡ true = search (rules, chains) in
+    let later : NoneFrom (owned c.args.start) (k + 1) rs = search (rules, chains) in
+    record { value = last_there c.args.start rs k r (search rules) c.index.ensures here later; item = search rules }

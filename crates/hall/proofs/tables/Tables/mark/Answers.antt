@@ -1,15 +1,22 @@
-use Rattle.std.proofs.Common.{◌≡◌, ◌&&◌, length, refl, ap, ◌∙◌}
+use Rattle.std.proofs.Common.{◌≡◌, ◌&&◌, map, get_or, length, refl, ap, ◌∙◌, arith}
 use Rattle.std.proofs.lemmas.List.{with_items_is}
 use Rattle.protocol.specs.Hall.{with_processes}
-use Rattle.hall.specs.Claims.{told, blocker, marks_it}
+use Rattle.hall.specs.Claims.{told, marked, withdrawn, blocker, marks_it}
 use Rattle.hall.specs.Model.{model, all_seen}
+use Rattle.hall.proofs.Maps.{mapped_more, mapped_all}
 use Rattle.hall.proofs.Bridges.{marked_is}
 use Rattle.hall.proofs.tables.Tables.mark.Goals as goal
+
+pub loop-q-preserved : goal.loop-q-preserved
+loop-q-preserved g c =
+    let there = told g.S.Station.meaning.conflict c.args.self.now.log.items c.args.c in
+    let q = get_or c.loop-q.q-items c.loop-q.q-index c.q-item.result in
+    mapped_more (marked there) _ _ _ c.loop-q.invariant c.q-item.result _ (omega arith) (omega arith) (c.set_back.ensures ∙ ap (λ b. withdrawn b q) (c.tells.ensures ∙ ap (λ l. told g.S.Station.meaning.conflict l c.args.c q) c.as_slice.ensures.value))
 
 pub returns : goal.returns
 returns g c =
     let h = c.args.self.now in
-    let long : length c.mark_all.new.processes ≡ h.processes.len = c.mark_all.auto.processes ∙ c.as_mut_slice.ensures.len in
-    let there = rw (c.as_slice.ensures.value, c.as_mut_slice.ensures.value) at c.mark_all.ensures in
-    ap (λ qs. with_processes (model g.S.Station.view h) (all_seen h.programs qs)) (with_items_is h.processes c.mark_all.new.processes long ∙ there)
+    let there = marked (told g.S.Station.meaning.conflict h.log.items c.args.c) in
+    let long : length c.loop-q.q-items ≡ h.processes.len = c.loop-q.auto.q-items ∙ c.deref_mut-q-items.ensures.len in
+    ap (λ qs. with_processes (model g.S.Station.view h) (all_seen h.programs qs)) (with_items_is h.processes c.loop-q.q-items long ∙ mapped_all there _ _ _ c.loop-q.invariant c.loop-q-test.false ∙ ap (map there) c.deref_mut-q-items.ensures.value)
     ∙ ap (with_processes (model g.S.Station.view h)) (marked_is h.programs (told g.S.Station.meaning.conflict h.log.items c.args.c) (λ q. blocker g.S.Station.meaning.conflict h.log.items c.args.c q && marks_it c.args.c q) (λ q. refl) h.processes.items)
