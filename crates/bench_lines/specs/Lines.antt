@@ -1,6 +1,7 @@
 -- What the lines of stationbench say.
 use Rattle.std.specs.Prelude.{ℕ, ◌+◌, ◌-◌, ◌*◌, Bool, cond, not, ◌&&◌, ◌||◌, List, [], ◌∷◌, length, drop, Some, None, Ok, Err, codes, Option, Result, ◌==◌, nat_le}
 use Rattle.std.specs.List.{prefix_len, take_while}
+use Rattle.std.specs.Option.{option_and_then}
 use Rattle.std.specs.Str.{bytes_eq}
 use Rattle.activity.specs.declared.Activity.{Activity}
 use Rattle.bench_lines.specs.declared.Line.{Line}
@@ -42,14 +43,10 @@ within limit n = cond (nat_le n limit) (Some n) None
 abbrev pub digit_onto : ℕ → ℕ → ℕ → Option ℕ
 digit_onto limit n b = cond (nat_le 48 b && nat_le b 57) (within limit (n * 10 + (b - 48))) None
 
-abbrev pub then_digits : Option ℕ → (ℕ → Option ℕ) → Option ℕ
-then_digits None f = None
-then_digits (Some n) f = f n
-
 -- the number that the digits give after n
 abbrev pub digits : ℕ → List ℕ → ℕ → Option ℕ
 digits limit [] n = Some n
-digits limit (b ∷ bs) n = then_digits (digit_onto limit n b) (digits limit bs)
+digits limit (b ∷ bs) n = option_and_then (digits limit bs) (digit_onto limit n b)
 
 abbrev pub mistake : {X : Type 0} → ℕ → Fault → Result X Mistake
 mistake n f = Err (record { before = n; fault = f })
