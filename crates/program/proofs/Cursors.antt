@@ -1,5 +1,5 @@
 -- A cursor in a program, as a position in its tree.
-use Rattle.std.proofs.Common.{◌≡◌, ℕ, suc, ◌+◌, ◌≤◌, Bool, true, false, List, [], ◌∷◌, ◌++◌, length, take, drop, Some, None, Option, sym, refl, ap, ◌∙◌, arith, length-append, take-append-drop, length-take-le}
+use Rattle.std.proofs.Common.{◌≡◌, ℕ, suc, ◌+◌, ◌≤◌, true, List, [], ◌∷◌, ◌++◌, length, take, drop, Some, None, Option, sym, refl, ap, ◌∙◌, arith, length-append, take-append-drop, length-take-le}
 use mathlib.Core.Bool.{Bool-set}
 use mathlib.Core.Logic.{∥∥₁_elim}
 use Rattle.std.specs.List.{cons_option}
@@ -7,26 +7,21 @@ use Rattle.std.proofs.lemmas.List.{drop-drop, drop_all}
 use Rattle.std.proofs.lemmas.List.Elements.{filter_map-append}
 use Rattle.activity.specs.declared.Activity.{Activity}
 use Rattle.program.specs.declared.command.Command.{Command}
-use Rattle.program.specs.declared.command.Command.TheVariants.{C, P, R, Open, Bar, Close, Stop}
+use Rattle.program.specs.declared.command.Command.TheVariants.{C, P, R, Close}
 use Rattle.program.specs.declared.program.Program.{Program}
 use Rattle.program.specs.declared.command.Step.{Step}
 use Rattle.program.specs.declared.command.Kind.{Kind}
-use Rattle.program.specs.declared.command.Kind.TheVariants.{Compensatable, Pivot, Retriable}
+use Rattle.program.specs.declared.command.Kind.TheVariants.{Pivot}
 use Rattle.program.specs.Grammar.{Choices, text_commands, body_steps}
 use Rattle.program.specs.Positions.{in_body, in_row, Position, outer, inner, entered, Next, nothing, comes, next, coming, led, onward}
 use Rattle.program.specs.Places.{program_commands, row_at, body_at, opened_at, choices_at, rest_at, placed, tree, step_of, steps_among, nth, first, Spells, item_for, Left, left_in, left_past, left_after}
-use Rattle.program.specs.Contexts.{Context, in_body_at, at_pivot, at_choice, in_row_at, closed, over, nowhere, goes, is_over}
+use Rattle.program.specs.Contexts.{Context, in_body_at, at_choice, in_row_at, over, nowhere, goes, is_over}
 use Rattle.program.proofs.Trees.{goes_append, goes_nowhere, goes_whole, whole_goes}
 use Rattle.program.proofs.ReadBack.{text_back, text_steps}
 
 over_is : (st : Context) → is_over st ≡ true → st ≡ over
-over_is (in_body_at n) e = absurd (let z : ◌≡◌ {A = ℕ} 0 1 = cc in omega arith)
-over_is (at_pivot n) e = absurd (let z : ◌≡◌ {A = ℕ} 0 1 = cc in omega arith)
-over_is (at_choice n) e = absurd (let z : ◌≡◌ {A = ℕ} 0 1 = cc in omega arith)
-over_is (in_row_at n) e = absurd (let z : ◌≡◌ {A = ℕ} 0 1 = cc in omega arith)
-over_is (closed n) e = absurd (let z : ◌≡◌ {A = ℕ} 0 1 = cc in omega arith)
 over_is over e = refl
-over_is nowhere e = absurd (let z : ◌≡◌ {A = ℕ} 0 1 = cc in omega arith)
+over_is _ e = cc
 
 -- the commands of a program lead to the end of a text
 whole : (p : Program) → is_over (goes (in_body_at 0) (program_commands p)) ≡ true
@@ -42,45 +37,29 @@ program_steps p = ap steps_among (spells p) ∙ text_steps (tree p)
 
 -- no body goes on with a row, nor a row with a body
 nowhere_over : (cs : List Command) → is_over (goes nowhere cs) ≡ true → ⊥
-nowhere_over cs e = let h = goes_nowhere cs in let z : ◌≡◌ {A = Bool} false true = cc in let y : ◌≡◌ {A = ℕ} 0 1 = cc in omega arith
+nowhere_over cs e = let h = goes_nowhere cs in cc
 
 body_on : (n : ℕ) (xs : List Command) → is_over (goes (in_body_at n) xs) ≡ true → rest_at xs ≡ in_body (body_at xs)
 body_on n [] e = cc
-body_on n (C s ∷ xs) e = refl
-body_on n (P s ∷ xs) e = refl
 body_on n (R s ∷ xs) e = absurd (nowhere_over xs e)
-body_on n (Open ∷ xs) e = refl
-body_on n (Bar ∷ xs) e = refl
 body_on n (Close ∷ xs) e = absurd (nowhere_over xs e)
-body_on n (Stop ∷ xs) e = refl
+body_on n (x ∷ xs) e = refl
 
 row_on : (n : ℕ) (xs : List Command) → is_over (goes (in_row_at n) xs) ≡ true → rest_at xs ≡ in_row (row_at xs)
 row_on n [] e = refl
-row_on n (C s ∷ xs) e = absurd (nowhere_over xs e)
-row_on n (P s ∷ xs) e = absurd (nowhere_over xs e)
 row_on n (R s ∷ xs) e = refl
-row_on n (Open ∷ xs) e = absurd (nowhere_over xs e)
-row_on n (Bar ∷ xs) e = absurd (nowhere_over xs e)
 row_on n (Close ∷ xs) e = refl
-row_on n (Stop ∷ xs) e = absurd (nowhere_over xs e)
+row_on n (x ∷ xs) e = absurd (nowhere_over xs e)
 
 after_C : (st : Context) (s : Activity) (xs : List Command) → is_over (goes st (C s ∷ xs)) ≡ true → rest_at xs ≡ in_body (body_at xs)
 after_C (in_body_at n) s xs e = body_on n xs e
-after_C (at_pivot n) s xs e = absurd (nowhere_over xs e)
 after_C (at_choice n) s xs e = body_on (suc n) xs e
-after_C (in_row_at n) s xs e = absurd (nowhere_over xs e)
-after_C (closed n) s xs e = absurd (nowhere_over xs e)
-after_C over s xs e = absurd (nowhere_over xs e)
-after_C nowhere s xs e = absurd (nowhere_over xs e)
+after_C st s xs e = absurd (nowhere_over xs e)
 
 after_R : (st : Context) (s : Activity) (xs : List Command) → is_over (goes st (R s ∷ xs)) ≡ true → rest_at xs ≡ in_row (row_at xs)
-after_R (in_body_at n) s xs e = absurd (nowhere_over xs e)
-after_R (at_pivot n) s xs e = absurd (nowhere_over xs e)
 after_R (at_choice n) s xs e = row_on n xs e
 after_R (in_row_at n) s xs e = row_on n xs e
-after_R (closed n) s xs e = absurd (nowhere_over xs e)
-after_R over s xs e = absurd (nowhere_over xs e)
-after_R nowhere s xs e = absurd (nowhere_over xs e)
+after_R st s xs e = absurd (nowhere_over xs e)
 
 -- from any index on, a program leads to its end
 pub over_from : (p : Program) (at : ℕ) → is_over (goes (goes (in_body_at 0) (take at (program_commands p))) (drop at (program_commands p))) ≡ true
@@ -109,43 +88,24 @@ comes_here x xs None cs at k e = outside x xs ∙ ap (λ zs. coming (next (outer
   where
     outside : (x : Command) (xs : List Command) → item_for x None ≡ coming (next (outer (body_at (x ∷ xs))))
     outside (C a) xs = refl
-    outside (P a) xs = refl
-    outside (R a) xs = refl
-    outside Open xs = refl
-    outside Bar xs = refl
-    outside Close xs = refl
-    outside Stop xs = refl
+    outside x xs = refl
 comes_here x xs (Some from) cs at k e = within x xs ∙ ap (λ zs. coming (next (inner (choices_at (drop from cs)) k (rest_at zs)))) (sym e)
   where
     within : (x : Command) (xs : List Command) → item_for x (Some from) ≡ coming (next (inner (choices_at (drop from cs)) k (rest_at (x ∷ xs))))
     within (C a) xs = refl
-    within (P a) xs = refl
-    within (R a) xs = refl
-    within Open xs = refl
-    within Bar xs = refl
-    within Close xs = refl
-    within Stop xs = refl
+    within x xs = refl
 
 -- going on past a step that is no pivot
 plain_outer : (ys : List Command) (s : Step) → Some s ≡ coming (next (outer (body_at ys))) → (s.kind ≡ Pivot → ⊥) → outer (body_at (drop 1 ys)) ≡ onward (outer (body_at ys))
-plain_outer [] s e n = cc
 plain_outer (C t ∷ ys) s e n = refl
 plain_outer (P t ∷ ys) s e n = absurd (n (cc))
-plain_outer (R t ∷ ys) s e n = cc
-plain_outer (Open ∷ ys) s e n = cc
-plain_outer (Bar ∷ ys) s e n = cc
-plain_outer (Close ∷ ys) s e n = cc
-plain_outer (Stop ∷ ys) s e n = cc
+plain_outer ys s e n = cc
 
 plain_inner : (ys : List Command) (s : Step) (c : Choices) (k : ℕ) (st : Context) → is_over (goes st ys) ≡ true → Some s ≡ coming (next (inner c k (rest_at ys))) → (s.kind ≡ Pivot → ⊥) → inner c k (rest_at (drop 1 ys)) ≡ onward (inner c k (rest_at ys))
-plain_inner [] s c k st w e n = cc
 plain_inner (C t ∷ ys) s c k st w e n = ap (inner c k) (after_C st t ys w)
 plain_inner (P t ∷ ys) s c k st w e n = absurd (n (cc))
 plain_inner (R t ∷ ys) s c k st w e n = ap (inner c k) (after_R st t ys w)
-plain_inner (Open ∷ ys) s c k st w e n = cc
-plain_inner (Bar ∷ ys) s c k st w e n = cc
-plain_inner (Close ∷ ys) s c k st w e n = cc
-plain_inner (Stop ∷ ys) s c k st w e n = cc
+plain_inner ys s c k st w e n = cc
 
 pub plain_on : (p : Program) (at : ℕ) (choices : Option ℕ) (k : ℕ) (s : Step) → Some s ≡ coming (next (placed (program_commands p) at choices k)) → (s.kind ≡ Pivot → ⊥) → placed (program_commands p) (at + 1) choices k ≡ onward (placed (program_commands p) at choices k)
 plain_on p at None k s e n =
@@ -157,24 +117,12 @@ plain_on p at (Some from) k s e n =
 
 -- going on past a pivot
 crossing_outer : (ys : List Command) (s : Step) → Some s ≡ coming (next (outer (body_at ys))) → s.kind ≡ Pivot → entered (choices_at (drop 2 ys)) ≡ onward (outer (body_at ys))
-crossing_outer [] s e n = cc
-crossing_outer (C t ∷ ys) s e n = let z : Compensatable ≡ Pivot = cc in cc
 crossing_outer (P t ∷ ys) s e n = ap entered (sym (opened_past ys))
-crossing_outer (R t ∷ ys) s e n = cc
-crossing_outer (Open ∷ ys) s e n = cc
-crossing_outer (Bar ∷ ys) s e n = cc
-crossing_outer (Close ∷ ys) s e n = cc
-crossing_outer (Stop ∷ ys) s e n = cc
+crossing_outer ys s e n = cc
 
 crossing_inner : (ys : List Command) (s : Step) (c : Choices) (k : ℕ) → Some s ≡ coming (next (inner c k (rest_at ys))) → s.kind ≡ Pivot → entered (choices_at (drop 2 ys)) ≡ onward (inner c k (rest_at ys))
-crossing_inner [] s c k e n = cc
-crossing_inner (C t ∷ ys) s c k e n = let z : Compensatable ≡ Pivot = cc in cc
 crossing_inner (P t ∷ ys) s c k e n = ap entered (sym (opened_past ys))
-crossing_inner (R t ∷ ys) s c k e n = let z : Retriable ≡ Pivot = cc in cc
-crossing_inner (Open ∷ ys) s c k e n = cc
-crossing_inner (Bar ∷ ys) s c k e n = cc
-crossing_inner (Close ∷ ys) s c k e n = cc
-crossing_inner (Stop ∷ ys) s c k e n = cc
+crossing_inner ys s c k e n = cc
 
 pub crossing_on : (cs : List Command) (at : ℕ) (choices : Option ℕ) (k : ℕ) (s : Step) → Some s ≡ coming (next (placed cs at choices k)) → s.kind ≡ Pivot → placed cs (at + 2) (Some (at + 2)) 0 ≡ onward (placed cs at choices k)
 crossing_on cs at None k s e n = ap (λ zs. entered (choices_at zs)) (sym (drop-drop 2 at cs)) ∙ crossing_outer (drop at cs) s e n
@@ -199,14 +147,8 @@ nth_there [] vs s = refl
 nth_there (u ∷ us) vs s = nth_there us vs s
 
 item_step : (x : Command) (choices : Option ℕ) (s : Step) → item_for x choices ≡ Some s → step_of x ≡ Some s
-item_step (C a) choices s e = e
-item_step (P a) choices s e = e
 item_step (R a) None s e = cc
-item_step (R a) (Some from) s e = e
-item_step Open choices s e = e
-item_step Bar choices s e = e
-item_step Close choices s e = e
-item_step Stop choices s e = e
+item_step x choices s e = e
 
 module _ (p : Program) (at : ℕ) (choices : Option ℕ) (k : ℕ) (s : Step) where
   named_by : (rest : List Command) → drop at (program_commands p) ≡ rest → coming (next (placed (program_commands p) at choices k)) ≡ Some s → nth (steps_among (program_commands p)) (length (steps_among (take at (program_commands p)))) ≡ Some s
@@ -231,9 +173,8 @@ steps_left p at =
     ∙ ap length (sym (filter_map-append step_of (take at cs) (drop at cs)) ∙ ap steps_among (take-append-drop at cs) ∙ program_steps p)
 
 plain_kind : (k : Kind) (l : Left) → (k ≡ Pivot → ⊥) → record { here = drop 1 l.here; choices = l.choices } ≡ left_past k l
-plain_kind Compensatable l n = refl
 plain_kind Pivot l n = absurd (n refl)
-plain_kind Retriable l n = refl
+plain_kind k l n = refl
 
 module _ (cs : List Command) (at : ℕ) (choices : Option ℕ) (s : Step) (o : Option Step) (e : Some s ≡ o) where
   pub plain_left : (s.kind ≡ Pivot → ⊥) → left_in cs (at + 1) choices ≡ left_after o (left_in cs at choices)

@@ -8,8 +8,9 @@ use Rattle.program.specs.declared.refusal.Fault.TheVariants.{TooLong, Misplaced,
 use Rattle.program.specs.declared.refusal.Refusal.{Refusal}
 use Rattle.program.specs.Grammar.{Body, mark, written, operands, bytes, Yields, text_commands}
 use Rattle.program.specs.Refusals.{weight, step_count, open_after, opened, peak, Within, Whole, Begins, Reason, Stuck, StuckSomewhere, Refused}
-use Rattle.program.specs.Places.{body_at}
-use Rattle.program.specs.Outcome.{OutcomeBy}
+use Rattle.program.specs.Places.{body_at, tree}
+use Rattle.program.specs.declared.reading.Reading.{Reading}
+use Rattle.program.specs.Outcome.{OutcomeBy, Outcome, Same}
 use Rattle.program.specs.Contexts.{in_body_at, go}
 use Rattle.program.proofs.Trees.{goes_more, whole_goes, begins_goes}
 use Rattle.program.proofs.Counts.{opened_peak, opened_more}
@@ -279,7 +280,7 @@ one_refusal t f g p q a b = go_on (is_stuck t f p a) (is_stuck t g q b)
     go_on (inr (cs, u, s)) (inr (ds, v, r)) = one_stuck t f g p q cs ds u v s r
 
 -- a text that the grammar yields is read, and its program is of that tree
-pub accepts : (t : List ℕ) (d : Body) (o : Option Refusal) → OutcomeBy t d o → (b : Body) → Yields t b → (o ≡ None) × (d ≡ b)
+accepts : (t : List ℕ) (d : Body) (o : Option Refusal) → OutcomeBy t d o → (b : Body) → Yields t b → (o ≡ None) × (d ≡ b)
 accepts t d None y b z = (refl, one_tree t d b y z)
 accepts t d (Some e) (r, f) b z = absurd (apart t b e.fault e.place z r)
 
@@ -287,10 +288,18 @@ accepts t d (Some e) (r, f) b z = absurd (apart t b e.fault e.place z r)
 same_refusal : (a b : Refusal) → (a.fault ≡ b.fault) × (a.place ≡ b.place) → a ≡ b
 same_refusal a b (p, q) = λ i. record { fault = p i; place = q i }
 
-pub once : (t : List ℕ) (b d : Body) (o q : Option Refusal) → OutcomeBy t b o → OutcomeBy t d q → (o ≡ q) × (b ≡ d)
+once : (t : List ℕ) (b d : Body) (o q : Option Refusal) → OutcomeBy t b o → OutcomeBy t d q → (o ≡ q) × (b ≡ d)
 once t b d None None y z = (refl, one_tree t b d y z)
 once t b d None (Some e) y z = absurd (apart t b e.fault e.place y z.0)
 once t b d (Some e) None y z = absurd (apart t d e.fault e.place z y.0)
 once t b d (Some e) (Some g) y z =
     let same = same_refusal e g (one_refusal t e.fault g.fault e.place g.place y.0 z.0) in
     (ap Some same, y.1 ∙ sym z.1)
+
+-- what comes of a text is all that can come of it
+pub settled : (t : List ℕ) (r : Reading) → Outcome t r → record { outcome : Outcome t r; accepts : (b : Body) → Yields t b → (r.refusal ≡ None) × (tree r.program ≡ b); once : (q : Reading) → Outcome t q → Same r q }
+settled t r told = record {
+  outcome = told;
+  accepts = accepts t (tree r.program) r.refusal told;
+  once = λ q o. let same = once t (tree r.program) (tree q.program) r.refusal q.refusal told o in record { refusal = same.0; program = same.1 };
+}
