@@ -9,8 +9,7 @@ use Rattle.baggage.specs.declared.register.Bag.{Bag}
 use Rattle.baggage.specs.declared.register.BagActivity.{BagActivity}
 use Rattle.baggage.specs.declared.register.BagActivity.TheVariants.{Enter, Strike, Look, Seal, Report}
 use Rattle.station.specs.Meaning.{Restores, Commutes, Symmetric, AlwaysPossible, Bounded, lifted}
-use Rattle.baggage.specs.Tabled.{matched, proper}
-use Rattle.baggage.specs.Register.{between, standing, number_of, with_stand, with_seal, with_report, entered, if_open, on_bag, names, register_listing, bag_meaning, register_meaning}
+use Rattle.baggage.specs.Register.{between, standing, number_of, with_stand, with_seal, with_report, entered, if_open, on_bag, names, bag_meaning, register_meaning}
 use Rattle.station.specs.Part.{Swap, parts}
 use Rattle.baggage.specs.Swaps as swaps
 use Rattle.baggage.specs.Cell.{CellLaws, Undone, Ready}

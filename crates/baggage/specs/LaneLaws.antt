@@ -11,8 +11,7 @@ use Rattle.baggage.specs.declared.lanes.LaneCount.{LaneCount}
 use Rattle.baggage.specs.declared.lanes.Lane.{Lane}
 use Rattle.baggage.specs.declared.lanes.LaneActivity.{LaneActivity}
 use Rattle.baggage.specs.declared.lanes.LaneActivity.TheVariants.{Take, Give, Count, Send, Flag}
-use Rattle.baggage.specs.Tabled.{matched, proper}
-use Rattle.baggage.specs.Lanes.{within, counted, raised, lowered, with_count, recounted, flagged, on_lane, off_lane, names, empty_lane, lanes_listing, lane_meaning, lanes_meaning}
+use Rattle.baggage.specs.Lanes.{within, counted, raised, lowered, with_count, recounted, flagged, on_lane, off_lane, empty_lane, lane_meaning, lanes_meaning}
 use Rattle.baggage.specs.Swaps as swaps
 use Rattle.baggage.specs.Cell.{CellLaws, Undone, Ready}
 use Rattle.baggage.specs.RowLaws as row

@@ -1,5 +1,5 @@
 -- A station that is a row of cells: each activity works on the one cell that its parameter names.
-use Rattle.std.specs.Prelude.{ℕ, cond, length, replicate, Some, None, Option, slice_get, slice_set}
+use Rattle.std.specs.Prelude.{ℕ, cond, replicate, Some, None, Option, slice_get, slice_set}
 use Rattle.std.proofs.Common.{◌∙◌, length-set}
 use Rattle.std.proofs.lemmas.List.{length-replicate}
 use Rattle.station.specs.Meaning.{Meaning, lifted}

@@ -40,7 +40,7 @@ pub struct Catalogue {
 }
 
 impl Catalogue {
-    // The kind of an activity, neither past the table's end: as a listing has it where the table agrees with that.
+    // The kind of an activity, and neither kind past the table's end. A listing has the same where the table agrees with it.
     pub fn kind(&self, number: u8) -> Kind
         ensures compensatable { (l : Listing) → agrees self.now l ≡ true → result.compensatable ≡ listed l.compensatables number }
         ensures retriable { (l : Listing) → agrees self.now l ≡ true → result.retriable ≡ listed l.retriables number }
@@ -51,7 +51,7 @@ impl Catalogue {
             .unwrap_or(NEITHER)
     }
 
-    // Whether two activities conflict, which none does past the table's end: as a listing has it where the table agrees with that.
+    // Whether two activities conflict, which none does past the table's end. A listing has the same where the table agrees with it.
     pub fn conflict(&self, a: u8, b: u8) -> bool
         ensures { (l : Listing) → agrees self.now l ≡ true → result ≡ matched l.conflicts a b }
     {
