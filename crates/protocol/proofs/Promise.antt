@@ -1,6 +1,8 @@
 -- The promise, over the run that the functions compute.
-use Rattle.std.proofs.Common.{◌≡◌, ℕ, ◌<◌, ◌≤◌, ◌⊎◌, Bool, true, false, cond, eqb, ltb, List, [], ◌∷◌, ◌++◌, map, length, Some, None, Option, sym, refl, ap, ◌∙◌, subst, inl, inr, ⊎_elim, append_assoc, arith}
+use Rattle.std.proofs.Common.{◌≡◌, ℕ, ◌<◌, ◌≤◌, ◌⊎◌, Bool, true, false, cond, eqb, ltb, List, [], ◌∷◌, ◌++◌, map, length, Some, None, Option, sym, refl, ap, ◌∙◌, subst, inl, inr, ⊎_elim, arith}
 use Rattle.std.proofs.lemmas.Bool.{eqb-true, cases_eq}
+use Rattle.std.proofs.lemmas.List.Sums.{fold-append}
+use Rattle.std.proofs.lemmas.List.Concat.{flat_map-append}
 use Rattle.serial.specs.Sorts.{Pairwise}
 use Rattle.serial.specs.Replay.{Replays}
 use Rattle.serial.proofs.Sorting.{sort_sorted, sort_stable}
@@ -13,7 +15,7 @@ use Rattle.protocol.specs.Means.{actions, Laws, Does, conflicting}
 use Rattle.protocol.specs.Log.{owned, own, to_pivot, orderly, prior, pivoted, group, number}
 use Rattle.protocol.specs.Hall.{Hall, fresh}
 use Rattle.protocol.specs.Call.{Call, Event, call, scan}
-use Rattle.protocol.specs.CallFunction.{singles, all_singles, ends, outcome, one, scanned, calls_of, and_call, after, after_all}
+use Rattle.protocol.specs.CallFunction.{singles, all_singles, ends, outcome, one, scanned, calls_of, after, after_all}
 use Rattle.protocol.specs.Letters.{call_of}
 use Rattle.protocol.specs.declared.scan.Request.{Request}
 use Rattle.protocol.proofs.Ranks.{later}
@@ -21,7 +23,7 @@ use Rattle.program.specs.Places.{nth}
 use Rattle.protocol.specs.Statements.{Agree, Orderly, without_commit_number, Begins, Fixed}
 use Rattle.protocol.proofs.Computed.{hall_after, book_after, history}
 use Rattle.protocol.proofs.Members.{pairs_from, all_from, before_first, before_second}
-use Rattle.std.specs.List.{AllByRecursion}
+use Rattle.std.specs.List.{AllByRecursion, cons_option}
 use Rattle.protocol.proofs.Sound.{Sound}
 use Rattle.protocol.proofs.StandingChanges.{sound_fresh}
 use Rattle.protocol.proofs.History.{history_is, sound_events}
@@ -62,19 +64,17 @@ sorted_orderly : (log : List Record) → Pairwise (λ a b. prior (pivoted log) a
 sorted_orderly log = sort_sorted (prior (pivoted log)) (total (pivoted log)) (transitive (pivoted log)) log
 
 singles_append : (es more : List Event) → all_singles (es ++ more) ≡ all_singles es ++ all_singles more
-singles_append [] more = refl
-singles_append (e ∷ es) more = ap (λ l. singles e ++ l) (singles_append es more) ∙ sym (append_assoc (singles e) (all_singles es) (all_singles more))
+singles_append es more = flat_map-append singles es more
 
 module _ {S : Type 0} (M : Meaning S) where
   ends_append : (h : Hall S) (cs ds : List Call) → ends M h (cs ++ ds) ≡ ends M (ends M h cs) ds
-  ends_append h [] ds = refl
-  ends_append h (c ∷ cs) ds = ends_append (outcome M h c).hall cs ds
+  ends_append h cs ds = fold-append (λ g c. (outcome M g c).hall) h cs ds
 
   scan_is : (h : Hall S) (rs : List Request) → (scanned M h rs).hall ≡ ends M h (calls_of rs)
   scan_is h [] = refl
   scan_is h (r ∷ rs) = go (call_of r) (λ g. scan_is g rs)
     where
-      go : (o : Option Call) → ((g : Hall S) → (scanned M g rs).hall ≡ ends M g (calls_of rs)) → (scanned M (one M h o).hall rs).hall ≡ ends M h (and_call o (calls_of rs))
+      go : (o : Option Call) → ((g : Hall S) → (scanned M g rs).hall ≡ ends M g (calls_of rs)) → (scanned M (one M h o).hall rs).hall ≡ ends M h (cons_option o (calls_of rs))
       go None again = again h
       go (Some c) again = again (outcome M h c).hall
 
@@ -137,8 +137,4 @@ module _ {S : Type 0} (M : Meaning S) (laws : Laws M) where
 
 -- one call more, for code that keeps track of the calls on it
 pub one_more : {S : Type 0} (M : Meaning S) (s : S) (es : List Event) (e : Event) → hall_after M s (es ++ e ∷ []) ≡ after M (hall_after M s es) e
-one_more {S} M s es e = go (fresh s) es
-  where
-    go : (h : Hall S) (xs : List Event) → after_all M h (xs ++ e ∷ []) ≡ after M (after_all M h xs) e
-    go h [] = refl
-    go h (x ∷ xs) = go (after M h x) xs
+one_more M s es e = fold-append (after M) (fresh s) es (e ∷ [])

@@ -34,7 +34,6 @@ use Rattle.protocol.proofs.Counts.{NextRoom, next_room}
 use Rattle.protocol.proofs.Bounds.{bounded_fresh, bounded_outcome}
 use Rattle.protocol.proofs.Computed.{hall_after}
 use Rattle.protocol.proofs.Promise.{all_is}
-use Rattle.protocol.specs.Means.{Laws}
 
 pub record Owned {S : Type 0} (h : Hall S) : Type 0 where
   pub low : (r : Record) → In r h.log → r.start ≤ h.given

@@ -1,5 +1,5 @@
 -- The book: what a hall has kept, as far as callers can tell. It is fed with calls and their answers, and with nothing else.
-use Rattle.std.specs.Prelude.{ℕ, Bool, true, false, cond, not, List, [], ◌∷◌, ◌++◌, map, replicate, Some, None, filter, Option, ◌==◌, slice_set, Ok, Err, find}
+use Rattle.std.specs.Prelude.{ℕ, Bool, true, false, cond, not, List, [], ◌∷◌, ◌++◌, map, replicate, Some, None, filter, Option, ◌==◌, slice_set, Ok, Err, find, fold}
 use Rattle.activity.specs.declared.Activity.{Activity}
 use Rattle.protocol.specs.declared.record.Record.{Record}
 use Rattle.protocol.specs.declared.answer.Turn.{Turn}
@@ -115,8 +115,7 @@ abbrev pub noted_record : Book → Request → Book
 noted_record b r = noted_if b (call_of r) (answer_told r.letter r.number)
 
 abbrev pub noted_records : Book → List Request → Book
-noted_records b [] = b
-noted_records b (r ∷ rs) = noted_records (noted_record b r) rs
+noted_records b rs = fold noted_record b rs
 
 -- what is told of a hall: a call with its answer; a scan list that was served, with its answers; one that was refused
 pub data Told : Type 0 where
@@ -131,5 +130,4 @@ heard b scan_refused = b
 
 -- the book after what was told, from first to last
 abbrev pub book_of : Book → List Told → Book
-book_of b [] = b
-book_of b (t ∷ ts) = book_of (heard b t) ts
+book_of b ts = fold heard b ts

@@ -1,5 +1,5 @@
 -- What each call comes to, as a function. What the rules say is the relation in Comes.antt; that the two agree is proved.
-use Rattle.std.specs.Prelude.{ℕ, suc, ◌+◌, ◌*◌, Bool, cond, not, List, [], ◌∷◌, ◌++◌, length, is_some, Some, None, Option, nat_eq, nat_le, nat_lt, slice_index_or, Ok, Err}
+use Rattle.std.specs.Prelude.{ℕ, suc, ◌+◌, ◌*◌, Bool, cond, not, List, [], ◌∷◌, length, is_some, Some, None, Option, nat_eq, nat_le, nat_lt, slice_index_or, Ok, Err, fold, filter_map, flat_map}
 use Rattle.std.specs.List.{list_any}
 use Rattle.std.specs.Bool.{then_some}
 use Rattle.std.specs.Option.{option_or}
@@ -75,8 +75,7 @@ module _ {S : Type 0} where
 
   -- the hall after a list of calls, and what was answered
   abbrev pub ends : Meaning S → Hall S → List Call → Hall S
-  ends M h [] = h
-  ends M h (c ∷ cs) = ends M (outcome M h c).hall cs
+  ends M h cs = fold (λ g c. (outcome M g c).hall) h cs
 
   abbrev pub replies : Meaning S → Hall S → List Call → List Answer
   replies M h [] = []
@@ -84,13 +83,8 @@ module _ {S : Type 0} where
 
 -- scan lists: each record is one call
 
-abbrev pub and_call : Option Call → List Call → List Call
-and_call None cs = cs
-and_call (Some c) cs = c ∷ cs
-
 abbrev pub calls_of : List Request → List Call
-calls_of [] = []
-calls_of (r ∷ rs) = and_call (call_of r) (calls_of rs)
+calls_of rs = filter_map call_of rs
 
 -- a scan list: the hall, and the records with their answers
 pub record Scan (S : Type 0) : Type 0 where
@@ -121,8 +115,7 @@ singles (call c) = c ∷ []
 singles (scan rs) = cond (nat_lt 64 (length rs)) [] (calls_of rs)
 
 abbrev pub all_singles : List Event → List Call
-all_singles [] = []
-all_singles (e ∷ es) = singles e ++ all_singles es
+all_singles es = flat_map singles es
 
 module _ {S : Type 0} where
   abbrev pub after : Meaning S → Hall S → Event → Hall S
@@ -130,5 +123,4 @@ module _ {S : Type 0} where
   after M h (scan rs) = (scan_outcome M h rs).hall
 
   abbrev pub after_all : Meaning S → Hall S → List Event → Hall S
-  after_all M h [] = h
-  after_all M h (e ∷ es) = after_all M (after M h e) es
+  after_all M h es = fold (after M) h es

@@ -1,5 +1,5 @@
 -- What a hall holds: the station, the log, the active processes, the programs by place, the last start number given and the last commit number.
-use Rattle.std.specs.Prelude.{ℕ, suc, min, Bool, true, false, cond, not, List, [], ◌∷◌, ◌++◌, map, replicate, Some, None, filter, Option, ◌==◌, slice_index_or, slice_set}
+use Rattle.std.specs.Prelude.{ℕ, suc, min, Bool, true, false, cond, not, List, [], ◌∷◌, ◌++◌, map, replicate, Some, None, filter, Option, ◌==◌, slice_index_or, slice_set, unwrap_or}
 use Rattle.std.specs.List as list
 use Rattle.activity.specs.declared.Activity.{Activity}
 use Rattle.protocol.specs.declared.record.Record.{Record}
@@ -54,8 +54,7 @@ abbrev pub with_processes : {S : Type 0} → Hall S → List Process → Hall S
 with_processes h ps = record { station = h.station; log = h.log; processes = ps; programs = h.programs; given = h.given; committed = h.committed }
 
 abbrev pub body_of : Option Body → Body
-body_of None = finish
-body_of (Some b) = b
+body_of o = unwrap_or o finish
 
 -- where a process of the place begins
 abbrev pub beginning : List (Option Body) → ℕ → Position
