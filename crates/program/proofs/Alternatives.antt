@@ -3,7 +3,7 @@ use Rattle.std.proofs.Common.{◌≡◌, ℕ, zero, suc, ◌-◌, ◌<◌, ◌�
 use Rattle.std.proofs.Common.{inl, inr}
 use Rattle.std.proofs.lemmas.Grind.{common_steps}
 use Rattle.program.specs.declared.command.Command.{Command}
-use Rattle.program.specs.declared.command.Command.TheVariants.{C, P, R, Open, Bar, Close, Stop}
+use Rattle.program.specs.declared.command.Command.TheVariants.{Open, Bar, Close}
 use Rattle.program.specs.Grammar.{Choices, row, or_else}
 use Rattle.program.specs.Positions.{alternative, reached}
 use Rattle.program.specs.Places.{choices_at, rest_at, starts_row, skip, unless_row, skipped}
@@ -16,14 +16,10 @@ none_reached (or_else b c) = refl
 -- past the first bar outside of n brackets one is further on, if there was anything left
 pub skip_there : (n : ℕ) (xs : List Command) → (i : ℕ) × (drop i xs ≡ skip n xs) × (0 < length xs → 0 < i)
 skip_there n [] = (0, refl, λ h. h)
-skip_there n (C s ∷ xs) = let r = skip_there n xs in (suc r.0, r.1, λ h. omega arith)
-skip_there n (P s ∷ xs) = let r = skip_there n xs in (suc r.0, r.1, λ h. omega arith)
-skip_there n (R s ∷ xs) = let r = skip_there n xs in (suc r.0, r.1, λ h. omega arith)
 skip_there n (Open ∷ xs) = let r = skip_there (suc n) xs in (suc r.0, r.1, λ h. omega arith)
 skip_there zero (Bar ∷ xs) = (1, refl, λ h. omega arith)
-skip_there (suc n) (Bar ∷ xs) = let r = skip_there (suc n) xs in (suc r.0, r.1, λ h. omega arith)
 skip_there n (Close ∷ xs) = let r = skip_there (n - 1) xs in (suc r.0, r.1, λ h. omega arith)
-skip_there n (Stop ∷ xs) = let r = skip_there n xs in (suc r.0, r.1, λ h. omega arith)
+skip_there n (_ ∷ xs) = let r = skip_there n xs in (suc r.0, r.1, λ h. omega arith)
 
 -- the place of what is left of some commands, by its length
 pub by_length : (cs xs : List Command) (i : ℕ) → drop i cs ≡ xs → (length xs ≤ length cs) × (drop (length cs - length xs) cs ≡ xs)

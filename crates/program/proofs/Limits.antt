@@ -2,7 +2,7 @@
 use Rattle.std.proofs.Common.{◌≡◌, ℕ, ◌+◌, ◌-◌, ◌≤◌, max, List, [], ◌∷◌, ◌++◌, length, sym, refl, ap, ◌∙◌, append_assoc, arith}
 use Rattle.activity.specs.declared.Activity.{Activity}
 use Rattle.program.specs.declared.command.Command.{Command}
-use Rattle.program.specs.declared.command.Command.TheVariants.{C, P, R, Open, Bar, Close, Stop}
+use Rattle.program.specs.declared.command.Command.TheVariants.{C, Bar, Close, Stop}
 use Rattle.program.specs.Grammar.{Body, finish, compensatable, pivot, Choices, row, or_else, row_commands, body_commands, choices_commands, text_commands, bytes, body_steps, body_depth, choices_depth, Yields}
 use Rattle.program.specs.Refusals.{step_count, peak, Within}
 use Rattle.program.specs.Places.{steps_among}
@@ -11,12 +11,7 @@ use Rattle.program.proofs.ReadBack.{text_steps}
 pub count_steps : (cs : List Command) → length (steps_among cs) ≡ step_count cs
 count_steps [] = refl
 count_steps (C a ∷ cs) = omega (arith, count_steps cs)
-count_steps (P a ∷ cs) = omega (arith, count_steps cs)
-count_steps (R a ∷ cs) = omega (arith, count_steps cs)
-count_steps (Open ∷ cs) = omega (arith, count_steps cs)
-count_steps (Bar ∷ cs) = omega (arith, count_steps cs)
-count_steps (Close ∷ cs) = omega (arith, count_steps cs)
-count_steps (Stop ∷ cs) = omega (arith, count_steps cs)
+count_steps (_ ∷ cs) = omega (arith, count_steps cs)
 
 text_count : (b : Body) → step_count (text_commands b) ≡ length (body_steps b)
 text_count b = sym (count_steps (text_commands b)) ∙ ap length (text_steps b)

@@ -11,35 +11,25 @@ use Rattle.program.proofs.Walks.{skip_body}
 -- the further choices are those after the bar
 pub further_skip : (xs : List Command) (n : ℕ) → further_at n xs ≡ choices_at (skip n xs)
 further_skip [] n = refl
-further_skip (C s ∷ xs) n = further_skip xs n
-further_skip (P s ∷ xs) n = further_skip xs n
-further_skip (R s ∷ xs) n = further_skip xs n
 further_skip (Open ∷ xs) n = further_skip xs (suc n)
 further_skip (Bar ∷ xs) zero = refl
-further_skip (Bar ∷ xs) (suc n) = further_skip xs (suc n)
 further_skip (Close ∷ xs) n = further_skip xs (n - 1)
-further_skip (Stop ∷ xs) n = further_skip xs n
+further_skip (_ ∷ xs) n = further_skip xs n
 
 -- choices are a row or an alternative and further ones, as they start
 pub choices_row : (xs : List Command) → starts_row xs ≡ true → choices_at xs ≡ row (row_at xs)
 choices_row [] e = refl
-choices_row (C s ∷ xs) e = cc
-choices_row (P s ∷ xs) e = cc
 choices_row (R s ∷ xs) e = refl
-choices_row (Open ∷ xs) e = cc
-choices_row (Bar ∷ xs) e = cc
 choices_row (Close ∷ xs) e = refl
-choices_row (Stop ∷ xs) e = cc
+choices_row (_ ∷ xs) e = cc
 
 pub choices_body : (xs : List Command) → starts_row xs ≡ false → choices_at xs ≡ or_else (body_at xs) (choices_at (skip 0 xs))
-choices_body [] e = cc
 choices_body (C s ∷ xs) e = ap (or_else (compensatable s (body_at xs))) (further_skip xs 0)
 choices_body (P s ∷ xs) e = ap (or_else (pivot s (opened_at xs))) (further_skip xs 0)
-choices_body (R s ∷ xs) e = cc
 choices_body (Open ∷ xs) e = ap (or_else finish) (further_skip xs 1)
 choices_body (Bar ∷ xs) e = refl
-choices_body (Close ∷ xs) e = cc
 choices_body (Stop ∷ xs) e = ap (or_else finish) (further_skip xs 0)
+choices_body _ e = cc
 
 -- the body of a tree's commands is the tree
 row_back : (ss : List Activity) (xs : List Command) → row_at (row_commands ss ++ Close ∷ xs) ≡ ss

@@ -95,50 +95,23 @@ with_pivot s c ws xs e = under (P s) (e ∙ under Open (sym (append_assoc (choic
 back : (st : Context) (c : Command) (xs : List Command) → Rest (go st c) xs → Rest st (c ∷ xs)
 back (in_body_at n) (C s) xs (b, cs, l, e) = (compensatable s b, cs, l, under (C s) e)
 back (in_body_at n) (P s) xs (c, cs, l, e) = (pivot s c, cs, l, with_pivot s c (after cs) xs e)
-back (in_body_at n) (R s) xs h = absurd h
-back (in_body_at n) Open xs h = absurd h
 back (in_body_at n) Bar xs h = let r = at_bar n xs h in (finish, r.0, r.1, r.2)
-back (in_body_at n) Close xs h = absurd h
 back (in_body_at n) Stop xs h = let r = at_stop n xs h in (finish, r.0, r.1, r.2)
-back (at_pivot n) (C s) xs h = absurd h
-back (at_pivot n) (P s) xs h = absurd h
-back (at_pivot n) (R s) xs h = absurd h
 back (at_pivot n) Open xs (c, cs, l, e) = (c, cs, l, under Open e)
-back (at_pivot n) Bar xs h = absurd h
-back (at_pivot n) Close xs h = absurd h
-back (at_pivot n) Stop xs h = absurd h
 back (at_choice n) (C s) xs (b, cs, l, e) = inside n (C s) xs (compensatable s b) cs l (under (C s) e)
 back (at_choice n) (P s) xs (c, cs, l, e) = inside n (P s) xs (pivot s c) cs l (with_pivot s c (after cs) xs e)
 back (at_choice n) (R s) xs (ss, cs, l, e) = (row (s ∷ ss), cs, l, under (R s) e)
-back (at_choice n) Open xs h = absurd h
 back (at_choice n) Bar xs (c, cs, l, e) = in_first n Bar finish c cs xs l (under Bar e)
 back (at_choice n) Close xs (cs, l, e) = (row [], cs, l, under Close e)
-back (at_choice n) Stop xs h = absurd h
-back (in_row_at n) (C s) xs h = absurd h
-back (in_row_at n) (P s) xs h = absurd h
 back (in_row_at n) (R s) xs (ss, cs, l, e) = (s ∷ ss, cs, l, under (R s) e)
-back (in_row_at n) Open xs h = absurd h
-back (in_row_at n) Bar xs h = absurd h
 back (in_row_at n) Close xs (cs, l, e) = ([], cs, l, under Close e)
-back (in_row_at n) Stop xs h = absurd h
-back (closed n) (C s) xs h = absurd h
-back (closed n) (P s) xs h = absurd h
-back (closed n) (R s) xs h = absurd h
-back (closed n) Open xs h = absurd h
 back (closed n) Bar xs h = at_bar n xs h
-back (closed n) Close xs h = absurd h
 back (closed n) Stop xs h = at_stop n xs h
-back over c xs h = absurd h
-back nowhere c xs h = absurd h
+back _ _ xs h = absurd h
 
 at_end : (st : Context) → st ≡ over → Rest st []
-at_end (in_body_at n) e = absurd (let z : ◌≡◌ {A = ℕ} 0 1 = cc in omega arith)
-at_end (at_pivot n) e = absurd (let z : ◌≡◌ {A = ℕ} 0 1 = cc in omega arith)
-at_end (at_choice n) e = absurd (let z : ◌≡◌ {A = ℕ} 0 1 = cc in omega arith)
-at_end (in_row_at n) e = absurd (let z : ◌≡◌ {A = ℕ} 0 1 = cc in omega arith)
-at_end (closed n) e = absurd (let z : ◌≡◌ {A = ℕ} 0 1 = cc in omega arith)
 at_end over e = refl
-at_end nowhere e = absurd (let z : ◌≡◌ {A = ℕ} 0 1 = cc in omega arith)
+at_end _ e = cc
 
 rest : (xs : List Command) (st : Context) → goes st xs ≡ over → Rest st xs
 rest [] st e = at_end st e
@@ -182,8 +155,7 @@ goes_begins cs h =
 pub begins_goes : (cs : List Command) → Begins cs → goes (in_body_at 0) cs ≡ nowhere → ⊥
 begins_goes cs (b, more, e) h =
     let a : over ≡ nowhere = sym (text_goes b) ∙ ap (goes (in_body_at 0)) e ∙ goes_append (in_body_at 0) cs more ∙ ap (λ st. goes st more) h ∙ goes_nowhere more in
-    let z : ◌≡◌ {A = ℕ} 0 1 = cc in
-    omega arith
+    cc
 
 -- how many brackets are open
 abbrev pub level_of : Context → ℕ
@@ -198,45 +170,19 @@ level_of nowhere = 0
 levels : (st : Context) (c : Command) → (go st c ≡ nowhere → ⊥) → open_after (level_of st) c ≡ level_of (go st c)
 levels (in_body_at n) (C s) h = refl
 levels (in_body_at n) (P s) h = refl
-levels (in_body_at n) (R s) h = absurd (h refl)
-levels (in_body_at n) Open h = absurd (h refl)
-levels (in_body_at zero) Bar h = absurd (h refl)
 levels (in_body_at (suc n)) Bar h = refl
-levels (in_body_at n) Close h = absurd (h refl)
 levels (in_body_at zero) Stop h = refl
-levels (in_body_at (suc n)) Stop h = absurd (h refl)
-levels (at_pivot n) (C s) h = absurd (h refl)
-levels (at_pivot n) (P s) h = absurd (h refl)
-levels (at_pivot n) (R s) h = absurd (h refl)
 levels (at_pivot n) Open h = add-one n
-levels (at_pivot n) Bar h = absurd (h refl)
-levels (at_pivot n) Close h = absurd (h refl)
-levels (at_pivot n) Stop h = absurd (h refl)
 levels (at_choice n) (C s) h = refl
 levels (at_choice n) (P s) h = refl
 levels (at_choice n) (R s) h = refl
-levels (at_choice n) Open h = absurd (h refl)
 levels (at_choice n) Bar h = refl
 levels (at_choice n) Close h = omega arith
-levels (at_choice n) Stop h = absurd (h refl)
-levels (in_row_at n) (C s) h = absurd (h refl)
-levels (in_row_at n) (P s) h = absurd (h refl)
 levels (in_row_at n) (R s) h = refl
-levels (in_row_at n) Open h = absurd (h refl)
-levels (in_row_at n) Bar h = absurd (h refl)
 levels (in_row_at n) Close h = omega arith
-levels (in_row_at n) Stop h = absurd (h refl)
-levels (closed n) (C s) h = absurd (h refl)
-levels (closed n) (P s) h = absurd (h refl)
-levels (closed n) (R s) h = absurd (h refl)
-levels (closed n) Open h = absurd (h refl)
-levels (closed zero) Bar h = absurd (h refl)
 levels (closed (suc n)) Bar h = refl
-levels (closed n) Close h = absurd (h refl)
 levels (closed zero) Stop h = refl
-levels (closed (suc n)) Stop h = absurd (h refl)
-levels over c h = absurd (h refl)
-levels nowhere c h = absurd (h refl)
+levels _ _ h = absurd (h refl)
 
 pub opened_level : (cs : List Command) (st : Context) → (goes st cs ≡ nowhere → ⊥) → opened (level_of st) cs ≡ level_of (goes st cs)
 opened_level [] st h = refl

@@ -44,9 +44,7 @@ first_is (C s) xs = ap (λ t. Some (C t, xs)) (back_together s)
 first_is (P s) xs = ap (λ t. Some (P t, xs)) (back_together s)
 first_is (R s) xs = ap (λ t. Some (R t, xs)) (back_together s)
 first_is Open xs = refl
-first_is Bar xs = refl
-first_is Close xs = refl
-first_is Stop xs = refl
+first_is _ xs = refl
 
 same_first : (c d : Command) (xs ys : List ℕ) → written c ++ xs ≡ written d ++ ys → (c ≡ d) × (xs ≡ ys)
 same_first c d xs ys e =
@@ -76,24 +74,14 @@ by_letter x = cond (eqb x 67) 1 (cond (eqb x 80) 1 (cond (eqb x 82) 1 0))
 weight_is : (c : Command) → weight c ≡ by_letter (mark c)
 unfolding by_letter
 weight_is (C a) = refl
-weight_is (P a) = refl
-weight_is (R a) = refl
-weight_is Open = refl
-weight_is Bar = refl
-weight_is Close = refl
-weight_is Stop = refl
+weight_is _ = refl
 
 weight_mark : (c d : Command) → mark c ≡ mark d → weight c ≡ 1 → weight d ≡ 1
 weight_mark c d e w = weight_is d ∙ ap by_letter (sym e) ∙ sym (weight_is c) ∙ w
 
 open_mark : (c : Command) → 91 ≡ mark c → (n : ℕ) → open_after n c ≡ n + 1
-open_mark (C s) e n = absurd (omega arith)
-open_mark (P s) e n = absurd (omega arith)
-open_mark (R s) e n = absurd (omega arith)
 open_mark Open e n = refl
-open_mark Bar e n = absurd (omega arith)
-open_mark Close e n = absurd (omega arith)
-open_mark Stop e n = absurd (omega arith)
+open_mark _ e n = absurd (omega arith)
 
 count_append : (us vs : List Command) → step_count (us ++ vs) ≡ step_count us + step_count vs
 count_append [] vs = omega arith
@@ -115,15 +103,10 @@ lead : (c : Command) → (bs : List ℕ) × (written c ≡ mark c ∷ bs)
 lead (C s) = (operands s, refl)
 lead (P s) = (operands s, refl)
 lead (R s) = (operands s, refl)
-lead Open = ([], refl)
-lead Bar = ([], refl)
-lead Close = ([], refl)
-lead Stop = ([], refl)
+lead _ = ([], refl)
 
 module _ (ds : List Command) (c : Command) (k : List Command) (more : List ℕ) (begins : Begins (ds ++ c ∷ [])) (within : Within (ds ++ c ∷ k)) where
   blocked : (f : Fault) (rest : List ℕ) → rest ≡ written c ++ more → Reason f ds rest → ⊥
-  blocked TooLong rest e r = r
-  blocked Misplaced [] e r = r
   blocked Misplaced (x ∷ rest) e r =
       let h = head_is (e ∙ ap (λ w. w ++ more) (lead c).1) in
       r.1 c (record { marked = sym h.0; begins = begins })
@@ -132,19 +115,17 @@ module _ (ds : List Command) (c : Command) (k : List Command) (more : List ℕ) 
       let h = head_is (e ∙ ap (λ w. w ++ more) (lead c).1) in
       let step = weight_mark d c (s.marked ∙ h.0) w in
       omega (arith, width c, ap length e ∙ length-append (written c) more)
-  blocked TooManySteps [] e r = r
   blocked TooManySteps (x ∷ rest) e (d, s, w, full) =
       let h = head_is (e ∙ ap (λ w. w ++ more) (lead c).1) in
       let step = weight_mark d c (s.marked ∙ h.0) w in
       omega (arith, within.few, count_append ds (c ∷ k))
-  blocked TooDeep [] e r = r
   blocked TooDeep (x ∷ rest) e (s, four) =
       let h = head_is (e ∙ ap (λ w. w ++ more) (lead c).1) in
       let opens = open_mark c (s.marked ∙ h.0) (opened 0 ds) in
       let same = ap (peak 0) (append_assoc ds (c ∷ []) k) in
       omega (arith, within.shallow, peak_front 0 (ds ++ c ∷ []) k, opened_peak 0 (ds ++ c ∷ []), opened_more 0 ds c)
-  blocked Trailing [] e r = r
   blocked Trailing (x ∷ rest) e r = whole_ends ds c r begins
+  blocked _ _ e r = r
 
 shorter : (ds : List Command) (c : Command) (k : List Command) → Begins (ds ++ c ∷ k) → Begins (ds ++ c ∷ [])
 shorter ds c k (b, more, e) = (b, k ++ more, e ∙ append_assoc ds (c ∷ k) more ∙ sym (append_assoc ds (c ∷ []) (k ++ more)))
@@ -162,56 +143,41 @@ no_bytes [] u e = (refl, sym e)
 no_bytes (c ∷ k) u e = absurd (omega (arith, ap length (e ∙ append_assoc (written c) (bytes k) u ∙ ap (λ w. w ++ (bytes k ++ u)) (lead c).1)))
 
 none_wrong : (f : Fault) (cs : List Command) → Whole cs → Reason f cs [] → ⊥
-none_wrong TooLong cs w r = r
-none_wrong Misplaced cs w r = r
 none_wrong CutOff cs w r = r w
-none_wrong TooManySteps cs w r = r
-none_wrong TooDeep cs w r = r
-none_wrong Trailing cs w r = r
+none_wrong _ cs w r = r
 
 -- one fault at one place
 same_fault : (f g : Fault) (cs : List Command) (rest : List ℕ) → Reason f cs rest → Reason g cs rest → f ≡ g
-same_fault TooLong g cs rest a b = absurd a
-same_fault Misplaced g cs [] a b = absurd a
-same_fault TooManySteps g cs [] a b = absurd a
-same_fault TooDeep g cs [] a b = absurd a
-same_fault Trailing g cs [] a b = absurd a
-same_fault CutOff TooLong cs [] a b = absurd b
-same_fault CutOff Misplaced cs [] a b = absurd b
 same_fault CutOff CutOff cs [] a b = refl
-same_fault CutOff TooManySteps cs [] a b = absurd b
-same_fault CutOff TooDeep cs [] a b = absurd b
-same_fault CutOff Trailing cs [] a b = absurd b
-same_fault Misplaced TooLong cs (x ∷ rest) a b = absurd b
+same_fault CutOff _ cs [] a b = absurd b
+same_fault _ _ cs [] a b = absurd a
 same_fault Misplaced Misplaced cs (x ∷ rest) a b = refl
+same_fault CutOff CutOff cs (x ∷ rest) a b = refl
+same_fault TooManySteps TooManySteps cs (x ∷ rest) a b = refl
+same_fault TooDeep TooDeep cs (x ∷ rest) a b = refl
+same_fault Trailing Trailing cs (x ∷ rest) a b = refl
 same_fault Misplaced CutOff cs (x ∷ rest) a b = absurd (a.1 b.0 b.1)
 same_fault Misplaced TooManySteps cs (x ∷ rest) a b = absurd (a.1 b.0 b.1)
 same_fault Misplaced TooDeep cs (x ∷ rest) a b = absurd (a.1 Open b.0)
 same_fault Misplaced Trailing cs (x ∷ rest) a b = absurd (a.0 b)
-same_fault CutOff TooLong cs (x ∷ rest) a b = absurd b
 same_fault CutOff Misplaced cs (x ∷ rest) a b = absurd (b.1 a.0 a.1)
-same_fault CutOff CutOff cs (x ∷ rest) a b = refl
 same_fault CutOff TooManySteps cs (x ∷ rest) a b = absurd (omega (arith, a.3, b.3))
 same_fault CutOff TooDeep cs (x ∷ rest) a b = absurd (omega (arith, weight_mark a.0 Open (a.1.marked ∙ sym b.0.marked) a.2))
 same_fault CutOff Trailing cs (x ∷ rest) a b = absurd (whole_ends cs a.0 b a.1.begins)
-same_fault TooManySteps TooLong cs (x ∷ rest) a b = absurd b
 same_fault TooManySteps Misplaced cs (x ∷ rest) a b = absurd (b.1 a.0 a.1)
 same_fault TooManySteps CutOff cs (x ∷ rest) a b = absurd (omega (arith, a.3, b.3))
-same_fault TooManySteps TooManySteps cs (x ∷ rest) a b = refl
 same_fault TooManySteps TooDeep cs (x ∷ rest) a b = absurd (omega (arith, weight_mark a.0 Open (a.1.marked ∙ sym b.0.marked) a.2))
 same_fault TooManySteps Trailing cs (x ∷ rest) a b = absurd (whole_ends cs a.0 b a.1.begins)
-same_fault TooDeep TooLong cs (x ∷ rest) a b = absurd b
 same_fault TooDeep Misplaced cs (x ∷ rest) a b = absurd (b.1 Open a.0)
 same_fault TooDeep CutOff cs (x ∷ rest) a b = absurd (omega (arith, weight_mark b.0 Open (b.1.marked ∙ sym a.0.marked) b.2))
 same_fault TooDeep TooManySteps cs (x ∷ rest) a b = absurd (omega (arith, weight_mark b.0 Open (b.1.marked ∙ sym a.0.marked) b.2))
-same_fault TooDeep TooDeep cs (x ∷ rest) a b = refl
 same_fault TooDeep Trailing cs (x ∷ rest) a b = absurd (whole_ends cs Open b a.0.begins)
-same_fault Trailing TooLong cs (x ∷ rest) a b = absurd b
 same_fault Trailing Misplaced cs (x ∷ rest) a b = absurd (b.0 a)
 same_fault Trailing CutOff cs (x ∷ rest) a b = absurd (whole_ends cs b.0 a b.1.begins)
 same_fault Trailing TooManySteps cs (x ∷ rest) a b = absurd (whole_ends cs b.0 a b.1.begins)
 same_fault Trailing TooDeep cs (x ∷ rest) a b = absurd (whole_ends cs Open a b.0.begins)
-same_fault Trailing Trailing cs (x ∷ rest) a b = refl
+same_fault TooLong _ cs (x ∷ rest) a b = absurd a
+same_fault _ _ cs (x ∷ rest) a b = absurd b
 
 -- the reading of the one that goes on is that of the other
 ends_there : (t : List ℕ) (f : Fault) (p : ℕ) (cs ds : List Command) (u v : List ℕ) → Stuck t f p ds v → Begins cs → Within cs → Further cs ds u v → (cs ≡ ds) × (u ≡ v)
@@ -243,11 +209,7 @@ yields_stuck t b f p ds v y s =
 -- a refusal that is not for length has a stuck reading
 is_stuck : (t : List ℕ) (f : Fault) (p : ℕ) → Refused t f p → ((f ≡ TooLong) × (255 < length t) × (p ≡ 255)) ⊎ StuckSomewhere t f p
 is_stuck t TooLong p r = inl (refl, r.0, r.1)
-is_stuck t Misplaced p r = inr r
-is_stuck t CutOff p r = inr r
-is_stuck t TooManySteps p r = inr r
-is_stuck t TooDeep p r = inr r
-is_stuck t Trailing p r = inr r
+is_stuck t f p r = inr r
 
 -- a text that the grammar yields is not refused
 apart : (t : List ℕ) (b : Body) (f : Fault) (p : ℕ) → Yields t b → Refused t f p → ⊥

@@ -40,9 +40,9 @@ worked = record {
       placed = refl;
       begins = (finish, Stop ∷ [], refl);
       within = record { few = lit≤ tt; shallow = lit≤ tt };
-      reason = λ w. let e : in_body_at 0 ≡ over = whole_goes [] w in let y : ◌≡◌ {A = ℕ} 0 1 = cc in omega arith;
+      reason = λ w. let e : in_body_at 0 ≡ over = whole_goes [] w in cc;
     },
   );
-  bracket_not_closed = no_place (C (record { number = 0; parameter = 3 }) ∷ P (record { number = 3; parameter = 3 }) ∷ Open ∷ R (record { number = 4; parameter = 3 }) ∷ []) 46 [] (in_row_at 0) refl (λ e. let y : ◌≡◌ {A = ℕ} 0 1 = cc in omega arith) (λ e. let y : ◌≡◌ {A = ℕ} 0 1 = cc in omega arith) (record { few = lit≤ tt; shallow = lit≤ tt }) (lit≤ tt) (λ c m. only_row 0 46 c m (λ e. omega arith) (λ e. omega arith));
-  alternative_without_bar = no_place (P (record { number = 3; parameter = 3 }) ∷ Open ∷ C (record { number = 0; parameter = 3 }) ∷ []) 93 (46 ∷ []) (in_body_at 1) refl (λ e. let y : ◌≡◌ {A = ℕ} 0 1 = cc in omega arith) (λ e. let y : ◌≡◌ {A = ℕ} 0 1 = cc in omega arith) (record { few = lit≤ tt; shallow = lit≤ tt }) (lit≤ tt) (λ c m. only_body 1 93 c m (λ e. omega arith) (λ e. omega arith) (λ e. omega arith));
+  bracket_not_closed = no_place (C (record { number = 0; parameter = 3 }) ∷ P (record { number = 3; parameter = 3 }) ∷ Open ∷ R (record { number = 4; parameter = 3 }) ∷ []) 46 [] (in_row_at 0) refl (λ e. cc) (λ e. cc) (record { few = lit≤ tt; shallow = lit≤ tt }) (lit≤ tt) (λ c m. only_row 0 46 c m (λ e. omega arith) (λ e. omega arith));
+  alternative_without_bar = no_place (P (record { number = 3; parameter = 3 }) ∷ Open ∷ C (record { number = 0; parameter = 3 }) ∷ []) 93 (46 ∷ []) (in_body_at 1) refl (λ e. cc) (λ e. cc) (record { few = lit≤ tt; shallow = lit≤ tt }) (lit≤ tt) (λ c m. only_body 1 93 c m (λ e. omega arith) (λ e. omega arith) (λ e. omega arith));
 }
