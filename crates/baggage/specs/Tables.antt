@@ -3,6 +3,7 @@ use Rattle.std.specs.Prelude.{◌≡◌, ℕ, zero, suc, ◌+◌, ◌<◌, ◌�
 use Rattle.std.proofs.Common.{ap, sym, subst, ◌∙◌, ⊎_elim, add-zero, zero-add, add-suc, suc-add, arith}
 use Rattle.std.proofs.lemmas.Bool.{and_parts, and_left, and_right, or_cases, or_from, eqb-true, ne_eqb, ltb-true, le-ltb, false≢true, cases_eq, cases_lt}
 use Rattle.std.specs.List.{AllByRecursion}
+use Rattle.std.proofs.lemmas.Bool.Decides.{nat_tests}
 use Rattle.baggage.specs.declared.catalogue.Catalogue.{Catalogue}
 use Rattle.baggage.specs.Tabled.{Listing, listed, matched, neither, kind_at, conflict_at, each_below, alike, all_below, pairs_below, proper, agrees, Agreed}
 use Rattle.std.specs.Prelude.{slice_get}
@@ -25,28 +26,15 @@ alike_same false false e = refl
 
 past_listed : (ks : List ℕ) (n : ℕ) → all_below 5 ks ≡ true → 5 ≤ n → listed ks n ≡ false
 past_listed [] n t h = refl
-past_listed (k ∷ ks) n t h =
-    let both = and_parts (nat_lt k 5) (all_below 5 ks) t in
-    let less = ltb-true k 5 both.0 in
-    or_from _ _ (ne_eqb n k (λ e. omega arith)) (past_listed ks n both.1 h)
+past_listed (k ∷ ks) n t h = grind (arith, nat_tests, past_listed ks n)
 
 past_first : (ps : List (ℕ × ℕ)) (a b : ℕ) → pairs_below 5 ps ≡ true → 5 ≤ a → matched ps a b ≡ false
 past_first [] a b t h = refl
-past_first ((k, l) ∷ ps) a b t h =
-    let both = and_parts (nat_lt k 5 && nat_lt l 5) (pairs_below 5 ps) t in
-    let two = and_parts (nat_lt k 5) (nat_lt l 5) both.0 in
-    let one_less = ltb-true k 5 two.0 in
-    let other-less = ltb-true l 5 two.1 in
-    or_from _ _ (or_from _ _ (and_left _ _ (ne_eqb a k (λ e. omega arith))) (and_left _ _ (ne_eqb a l (λ e. omega arith)))) (past_first ps a b both.1 h)
+past_first ((k, l) ∷ ps) a b t h = grind (arith, nat_tests, past_first ps a b)
 
 past_second : (ps : List (ℕ × ℕ)) (a b : ℕ) → pairs_below 5 ps ≡ true → 5 ≤ b → matched ps a b ≡ false
 past_second [] a b t h = refl
-past_second ((k, l) ∷ ps) a b t h =
-    let both = and_parts (nat_lt k 5 && nat_lt l 5) (pairs_below 5 ps) t in
-    let two = and_parts (nat_lt k 5) (nat_lt l 5) both.0 in
-    let one_less = ltb-true k 5 two.0 in
-    let other-less = ltb-true l 5 two.1 in
-    or_from _ _ (or_from _ _ (and_right (a == k) _ (ne_eqb b l (λ e. omega arith))) (and_right (a == l) _ (ne_eqb b k (λ e. omega arith)))) (past_second ps a b both.1 h)
+past_second ((k, l) ∷ ps) a b t h = grind (arith, nat_tests, past_second ps a b)
 
 -- ---- a proper listing
 
