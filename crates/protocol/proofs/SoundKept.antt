@@ -1,5 +1,5 @@
 -- Every call keeps a hall sound.
-use Rattle.std.proofs.Common.{◌≡◌, ℕ, suc, ◌≤◌, Bool, true, false, not, ◌&&◌, ◌||◌, List, [], ◌∷◌, is_some, Some, None, Option, sym, refl, ap, ◌∙◌, subst, inl, inr, ⊎_elim}
+use Rattle.std.proofs.Common.{◌≡◌, ℕ, suc, ◌≤◌, Bool, true, false, not, ◌&&◌, ◌||◌, is_some, Some, None, Option, sym, refl, ap, ◌∙◌, subst, inl, inr, ⊎_elim}
 use Rattle.std.proofs.lemmas.Bool.{true≢false, false≢true, ne_eqb, and_cases, or_parts, ltb-false, cases_Bool}
 use Rattle.activity.specs.declared.Activity.{Activity}
 use Rattle.protocol.specs.declared.standing.Aim.{Aim}
@@ -15,7 +15,7 @@ use Rattle.protocol.specs.Log.{returnable, own, from_pivot}
 use Rattle.protocol.specs.Hall.{Process, Hall, find, past_pivot, retreating, stand, move, beginning, failed}
 use Rattle.protocol.specs.StepFunction.{holds_conflict, holds_any_conflict, stands_before_conflict, other, younger, blocks_plain, blocks_pivot, blocks_alone, performed}
 use Rattle.protocol.specs.Call.{Call}
-use Rattle.protocol.specs.CallFunction.{outcome, ends}
+use Rattle.protocol.specs.CallFunction.{outcome}
 use Rattle.protocol.proofs.Processes.{found_start, failed_pivot}
 use Rattle.protocol.proofs.LastRecords.{none_own, loose_is, LooseIs, NotOf}
 use Rattle.protocol.proofs.CallCases.{Going, Backing, Passes, cases}
@@ -120,7 +120,3 @@ module _ {S : Type 0} (M : Meaning S) (laws : Laws M) (s : S) where
     leaves = λ p is e none. sound_gone M s h sound p.start (none_left h sound p is e none);
     turns = λ p is e none. sound_changed M s h sound p.start p is (move (PastPivot Forward) (into (suc (alternative_of p.at)) p.at)) (λ q. refl) record { pivot = sym (ap past_pivot e); row = λ r. back_rowless M p.at (at_standing h sound p is e); placed = into_placed M p.at (suc (alternative_of p.at)) (at_standing h sound p is e) };
   }
-
-  pub sound_ends : (h : Hall S) → Sound M s h → (cs : List Call) → Sound M s (ends M h cs)
-  sound_ends h sound [] = sound
-  sound_ends h sound (c ∷ cs) = sound_ends (outcome M h c).hall (sound_outcome h sound c) cs
