@@ -37,6 +37,7 @@ fn after_step(pivot: bool, s: Standing) -> Standing
     }
 }
 
+// `only` and `room` are clauses, and no fields of the tables: they speak of one process and what it has next, not of every table.
 impl<S: Station> Tables<S> {
     // The step is performed and recorded, or fails.
     fn perform(&mut self, p: Process, pivot: bool, activity: Activity) -> Turn
