@@ -5,7 +5,7 @@ use native.Mathlib.Bridge.{le_prop}
 use Rattle.std.specs.List.{find as first, filter, AllByRecursion}
 use Rattle.std.specs.Option.{option_map}
 use Rattle.std.proofs.lemmas.List.Elements.{All-head, All-tail, All-cons, All-from_recursion}
-use Rattle.std.proofs.lemmas.Bool.{eq-eqb, ne_eqb, eqb-true, eqb-false}
+use Rattle.std.proofs.lemmas.Bool.{eqb-true, eqb-false}
 use Rattle.program.specs.declared.program.Program.{Program}
 use Rattle.program.specs.declared.cursor.Cursor.{Cursor}
 use Rattle.program.specs.declared.command.Step.{Step}
@@ -67,13 +67,6 @@ module _ (ps : List (Option Program)) (n : ℕ) where
           let same : p ≡ q = cc in
           All-cons Same q qs (λ _. sym same) (All-from_recursion Same qs (above qs r.0 (ap (λ x. x.start) (sym same))))
       go false t e k = All-cons Same q qs (λ f. absurd (eqb-false _ _ t (f ∙ found_start n (all_seen ps qs) (seen ps p) (sym (ap (option_map (seen ps)) e ∙ found_is qs))))) (k e)
-
--- what a turn of the loop leaves at x
-pub put_here : (p x : Process) → x.start ≡ p.start → p ≡ put p x
-put_here p x e = sym (ap (λ b. cond b p x) (eq-eqb _ _ e))
-
-pub put_other : (p x : Process) → (x.start ≡ p.start → ⊥) → x ≡ put p x
-put_other p x e = sym (ap (λ b. cond b p x) (ne_eqb _ _ e))
 
 -- the only process of its number moved: what is done to it is known from itself
 module _ (ps : List (Option Program)) (p : Process) (s : Standing) (to : Cursor) (f : protocol.Process → protocol.Process) (same : seen ps (moved p s to) ≡ f (seen ps p)) where

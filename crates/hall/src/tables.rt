@@ -12,6 +12,7 @@ mod programs;
 mod rules;
 mod steps;
 
+// Plain tables with room reserved, so that no later call needs memory: a rule of the project.
 pub struct Tables<S> {
     station: S,
     log: Vec<Record>,

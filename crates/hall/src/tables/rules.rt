@@ -1,9 +1,9 @@
 // The rules of a step.
-ghost use Rattle.std.specs.Prelude.{◌≡◌, ◌+◌, ◌<◌, map, take, drop, IfSome, vec_len};
+ghost use Rattle.std.specs.Prelude.{◌≡◌, ◌+◌, ◌<◌, take, drop, IfSome, vec_len};
 ghost use Rattle.program.specs.Positions.{onward as led_on};
 ghost use Rattle.protocol.specs.declared.answer.Served.TheVariants.{Stepped};
 ghost use Rattle.protocol.specs.Ahead.{nothing, plain, crossing};
-ghost use Rattle.protocol.specs.Log.{committed_under, returnable};
+ghost use Rattle.protocol.specs.Log.{returnable};
 ghost use Rattle.protocol.specs.Hall.{answered, failed, standing_after, Outcome};
 ghost use Rattle.protocol.specs.StepFunction.{performed, undone, committing, backward, forward};
 ghost use Rattle.hall.specs.Model.{model, seen, here, IsOnly};
@@ -37,6 +37,7 @@ fn after_step(pivot: bool, s: Standing) -> Standing
     }
 }
 
+// `only` and `room` are clauses, and no fields of the tables: they speak of one process and what it has next, not of every table.
 impl<S: Station> Tables<S> {
     // The step is performed and recorded, or fails.
     fn perform(&mut self, p: Process, pivot: bool, activity: Activity) -> Turn
@@ -189,29 +190,13 @@ impl<S: Station> Tables<S> {
         ensures { answered (model S.Station.view self.new) (Ok (Stepped result)) ≡ committing (model S.Station.view self.old) (seen self.old.programs p) }
     {
         let n = self.committed + 1;
-        number_records(self.log.as_mut_slice(), p.start, n);
+        for r in self.log.iter_mut() {
+            if r.start == p.start {
+                r.commit = n;
+            }
+        }
         self.leave(p.start);
         self.committed = n;
         Turn::Committed(n)
-    }
-}
-
-// The record with the commit number, if it is the process's.
-fn numbered(r: Record, start: u16, n: u32) -> Record
-    ensures { result ≡ committed_under start n r }
-{
-    if r.start == start {
-        Record { commit: n, ..r }
-    } else {
-        r
-    }
-}
-
-// The records of the process get the commit number.
-fn number_records(log: &mut [Record], start: u16, n: u32)
-    ensures { log.new ≡ map (committed_under start n) log.old }
-{
-    for i in 0..log.len() {
-        log[i] = numbered(log[i], start, n);
     }
 }

@@ -1,9 +1,8 @@
-use Rattle.std.proofs.Common.{◌≡◌, ◌&&◌, map, get_or, length, refl, ap, ◌∙◌, arith}
-use Rattle.std.proofs.lemmas.List.{with_items_is}
+use Rattle.std.proofs.Common.{◌&&◌, get_or, refl, ap, ◌∙◌, arith}
 use Rattle.protocol.specs.Hall.{with_processes}
 use Rattle.hall.specs.Claims.{told, marked, withdrawn, blocker, marks_it}
 use Rattle.hall.specs.Model.{model, all_seen}
-use Rattle.hall.proofs.Maps.{mapped_more, mapped_all}
+use Rattle.hall.proofs.Maps.{mapped_more, all_mapped}
 use Rattle.hall.proofs.Bridges.{marked_is}
 use Rattle.hall.proofs.tables.Tables.mark.Goals as goal
 
@@ -17,6 +16,5 @@ pub returns : goal.returns
 returns g c =
     let h = c.args.self.now in
     let there = marked (told g.S.Station.meaning.conflict h.log.items c.args.c) in
-    let long : length c.loop-q.q-items ≡ h.processes.len = c.loop-q.auto.q-items ∙ c.deref_mut-q-items.ensures.len in
-    ap (λ qs. with_processes (model g.S.Station.view h) (all_seen h.programs qs)) (with_items_is h.processes c.loop-q.q-items long ∙ mapped_all there _ _ _ c.loop-q.invariant c.loop-q-test.false ∙ ap (map there) c.deref_mut-q-items.ensures.value)
+    ap (λ qs. with_processes (model g.S.Station.view h) (all_seen h.programs qs)) (all_mapped there h.processes _ _ _ c.loop-q.invariant c.loop-q-test.false c.loop-q.auto.q-items c.deref_mut-q-items.ensures.value c.deref_mut-q-items.ensures.len)
     ∙ ap (with_processes (model g.S.Station.view h)) (marked_is h.programs (told g.S.Station.meaning.conflict h.log.items c.args.c) (λ q. blocker g.S.Station.meaning.conflict h.log.items c.args.c q && marks_it c.args.c q) (λ q. refl) h.processes.items)
