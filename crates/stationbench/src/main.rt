@@ -9,7 +9,7 @@ ghost use Rattle.stationbench.specs.Outcome.{outcome_of, state_of};
 use baggage::{Lanes, Register};
 use bench_lines::{Line, read};
 use station::{Pair, Renumbering, Station};
-use std::io::{BufRead, BufReader};
+use std::io::{BufRead, BufReader, Read};
 use std::{env, io};
 
 mod outcome;
@@ -67,10 +67,10 @@ fn answer(rt: &impl Print, rig: &mut Rig, place: u64, text: &[u8]) -> io::Result
     }
 }
 
-fn run(rt: &(impl Print + Input + Alloc)) -> io::Result<()> {
+fn run(rt: &(impl Print + AllocGlobal), input: impl Read + Drop) -> io::Result<()> {
     let mut rig = rig();
-    let input = BufReader::new(rt.alloc(), rt.reader())?;
-    for (place, text) in (1..u64::MAX).zip(input.split(rt.alloc(), b'\n')) {
+    let lines = BufReader::new(rt.alloc(), input)?.split(rt.alloc(), b'\n');
+    for (place, text) in (1u64..).zip(lines) {
         answer(rt, &mut rig, place, text?.as_slice())?;
     }
     Ok(())
@@ -83,6 +83,6 @@ fn main(rt: HostRuntime) -> io::Result<()> {
             println!(rt; "stationbench does not know the argument {argument}.")?;
             shown::help(&rt)
         }
-        None => run(&rt),
+        None => run(&rt, rt.stdin()),
     }
 }
