@@ -1,7 +1,7 @@
 -- A catalogue's table against its listing: one test over the whole table, and the rule that it gives at each number.
 use Rattle.std.specs.Prelude.{◌≡◌, ℕ, zero, suc, ◌+◌, ◌<◌, ◌≤◌, Bool, true, false, cond, ◌&&◌, List, [], ◌∷◌, Some, ◌==◌, nat_lt, slice_index_or, refl}
 use Rattle.std.proofs.Common.{ap, sym, subst, ◌∙◌, ⊎_elim, add-zero, zero-add, add-suc, suc-add, arith}
-use Rattle.std.proofs.lemmas.Bool.{and_parts, and_left, and_right, or_cases, or_from, eqb-true, ne_eqb, ltb-true, le-ltb, false≢true, cases_eq, cases_lt}
+use Rattle.std.proofs.lemmas.Bool.{and_parts, and_left, and_right, or_cases, eqb-true, le-ltb, false≢true, cases_eq, cases_lt}
 use Rattle.std.specs.List.{AllByRecursion}
 use Rattle.std.proofs.lemmas.Bool.Decides.{nat_tests}
 use Rattle.baggage.specs.declared.catalogue.Catalogue.{Catalogue}
@@ -12,9 +12,7 @@ use Rattle.std.specs.Prelude.{slice_get}
 
 below : (n : ℕ) (f : ℕ → Bool) → each_below n f ≡ true → (k : ℕ) → k < n → f k ≡ true
 below zero f t k h = absurd (omega arith)
-below (suc n) f t k h =
-    let both = and_parts (f n) (each_below n f) t in
-    ⊎_elim (λ e. subst (λ (i : ℕ). f i ≡ true) (sym e) both.0) (λ ne. below n f both.1 k (omega arith)) (cases_eq k n)
+below (suc n) f t k h = grind (arith, nat_tests, below n f, cases_eq k n)
 
 below_both : (f : ℕ → ℕ → Bool) → each_below 5 (λ a. each_below 5 (f a)) ≡ true → (a b : ℕ) → a < 5 → b < 5 → f a b ≡ true
 below_both f t a b h k = below 5 (f a) (below 5 (λ a. each_below 5 (f a)) t a h) b k
@@ -62,13 +60,7 @@ module _ (l : Listing) (passes : proper l ≡ true) where
 
   pub symmetric : (a b : ℕ) → matched l.conflicts a b ≡ matched l.conflicts b a
   symmetric a b =
-      ⊎_elim
-      (λ h.
-      ⊎_elim (λ k. alike_same _ _ (below_both (λ a b. alike (matched l.conflicts a b) (matched l.conflicts b a)) limits.1 a b h k))
-      (λ k. without_conflict_either a b k ∙ sym (without_conflict b a k))
-      (cases_lt b 5))
-      (λ h. without_conflict a b h ∙ sym (without_conflict_either b a h))
-      (cases_lt a 5)
+      grind (arith, cases_lt a 5, cases_lt b 5, alike_same, below_both (λ a b. alike (matched l.conflicts a b) (matched l.conflicts b a)) limits.1 a b, without_conflict, without_conflict_either)
 
 -- ---- a table that agrees with a listing has at every number what is listed
 
@@ -96,14 +88,8 @@ module _ (t : Catalogue) (l : Listing) (passes : agrees t l ≡ true) where
 
   pub agreed : Agreed t l
   agreed = record {
-    compensatable = λ n.
-        ⊎_elim (λ h. alike_same _ _ (kinds_at n h).0)
-        (λ h. ap (λ k. k.compensatable) (beyond n h) ∙ sym (not_compensatable l is_proper n h))
-        (cases_lt n 5);
-    retriable = λ n.
-        ⊎_elim (λ h. alike_same _ _ (kinds_at n h).1)
-        (λ h. ap (λ k. k.retriable) (beyond n h) ∙ sym (not_retriable l is_proper n h))
-        (cases_lt n 5);
+    compensatable = λ n. grind (arith, cases_lt n 5, alike_same, kinds_at n, beyond n, not_compensatable l is_proper n);
+    retriable = λ n. grind (arith, cases_lt n 5, alike_same, kinds_at n, beyond n, not_retriable l is_proper n);
     conflict = λ a b.
         ⊎_elim
         (λ h.
