@@ -1,13 +1,7 @@
-use Rattle.std.proofs.Common.{◌≡◌, [], ◌∷◌, length, take, sym, refl, ap, subst, lit≤}
-use Rattle.program.specs.declared.command.Command.TheVariants.{Stop}
+use Rattle.std.proofs.Common.{sym, refl, ap, subst, lit≤, take}
 use Rattle.program.specs.Grammar.{finish, Yielded}
 use Rattle.program.proofs.reading.stop.Goals as goal
 
-pub invariant_of-result : goal.invariant_of-result
-invariant_of-result c =
-    let first : take 1 c.blank.result.now ≡ Stop ∷ [] = ap (take 1) c.blank.ensures in
-    record {
-      long = ap length c.blank.ensures;
-      room = lit≤ tt;
-      yielded = ∣ subst Yielded (sym first) (finish, refl, record { spelled = refl; short = lit≤ tt; few = lit≤ tt; shallow = lit≤ tt }) ∣₁;
-    }
+pub invariant_of-result-clause-yielded : goal.invariant_of-result-clause-yielded
+invariant_of-result-clause-yielded c =
+    ∣ subst Yielded (sym (ap (take 1) c.blank.ensures)) (finish, refl, record { spelled = refl; short = lit≤ tt; few = lit≤ tt; shallow = lit≤ tt }) ∣₁
