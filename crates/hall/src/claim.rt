@@ -1,5 +1,5 @@
 // What a process is about to do, who blocks it, and who is marked.
-ghost use Rattle.std.specs.Prelude.{◌≡◌, ◌&&◌, ◌||◌, nat_lt};
+ghost use Rattle.std.specs.Prelude.{◌≡◌, ◌||◌, nat_lt};
 ghost use Rattle.protocol.specs.Hall.{past_pivot, retreating};
 ghost use Rattle.hall.specs.Claims.{stops, blocks, marks, told};
 

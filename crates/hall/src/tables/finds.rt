@@ -1,5 +1,5 @@
 // What the tables have where.
-ghost use Rattle.std.specs.Prelude.{◌≡◌, ◌==◌, ◌<◌, ◌&&◌, drop, IfSome, if◌then◌else◌, vec_len, nat_eq};
+ghost use Rattle.std.specs.Prelude.{◌≡◌, ◌==◌, ◌<◌, drop, IfSome, vec_len};
 ghost use Rattle.std.specs.List.{find as first};
 ghost use Rattle.std.specs.Option.{option_map};
 ghost use Rattle.protocol.specs.Log.{own, from_pivot, last_of};
