@@ -9,8 +9,6 @@ ghost use Rattle.std.specs.declared.num.TryFromIntError.{TryFromIntError};
 ghost use Rattle.std.proofs.Common.{arith, lit≤};
 ghost use Rattle.std.proofs.lemmas.Bool.Decides.{nat_tests};
 ghost use Rattle.bench_lines.specs.Lines.{is_blank, is_in_word, begin, past_word, word_at, within, digit_onto, digits, with_place, number_at, activity_at, asked_at, end_at, reading};
-ghost use Rattle.std.proofs.Common.{arith, lit≤};
-ghost use Rattle.std.proofs.lemmas.Bool.Decides.{nat_tests};
 
 use activity::Activity;
 use std::error::Error;

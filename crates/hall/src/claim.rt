@@ -23,7 +23,7 @@ pub enum Deed {
 }
 
 // A process with what it is about to do.
-#[derive(Clone, Copy)]
+#[derive(Clone, Copy, Debug, PartialEq, Eq)]
 pub struct Claim {
     pub process: Process,
     pub deed: Deed,

@@ -3,7 +3,7 @@ use program::Cursor;
 use protocol::Standing;
 
 // An active process: its start number, the place of its program, its standing, and where it is in the program.
-#[derive(Clone, Copy)]
+#[derive(Clone, Copy, Debug, PartialEq, Eq)]
 pub struct Process {
     pub start: u16,
     pub place: u8,

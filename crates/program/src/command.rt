@@ -1,11 +1,14 @@
 // The commands of a program text, and the steps among them.
-ghost use Rattle.std.specs.Prelude.{◌≡◌, if◌then◌else◌};
-ghost use Rattle.program.specs.Grammar.{mark};
+ghost use Rattle.std.specs.Prelude.{◌≡◌, length, if◌then◌else◌};
+ghost use Rattle.program.specs.Grammar.{mark, written, command_of};
 ghost use Rattle.program.specs.Refusals.{weight};
 ghost use Rattle.program.specs.Places.{step_of};
 
 use activity::Activity;
 use std::fmt;
+
+// How many bytes a step takes: its letter, one byte of activity and two of parameter.
+const STEP_BYTES: usize = 4;
 
 // What a step must be: one that can be taken back; one past which its process does not go back; one that cannot fail.
 #[derive(Clone, Copy, Debug, PartialEq, Eq)]
@@ -13,6 +16,19 @@ pub enum Kind {
     Compensatable,
     Pivot,
     Retriable,
+}
+
+impl Kind {
+    // The command of a step of the kind.
+    pub(crate) fn command(self, activity: Activity) -> Command
+        ensures { result ≡ command_of self activity }
+    {
+        match self {
+            Kind::Compensatable => Command::C(activity),
+            Kind::Pivot => Command::P(activity),
+            Kind::Retriable => Command::R(activity),
+        }
+    }
 }
 
 impl fmt::Display for Kind {
@@ -103,5 +119,12 @@ impl Command {
         ensures { (if result then 1 else 0) ≡ weight self }
     {
         matches!(self, Command::C(_) | Command::P(_) | Command::R(_))
+    }
+
+    // How many bytes the command takes.
+    pub(crate) fn width(self) -> usize
+        ensures { result ≡ length (written self) }
+    {
+        if self.is_step() { STEP_BYTES } else { 1 }
     }
 }

@@ -1,7 +1,7 @@
 // The reader of program texts.
 ghost use Rattle.std.specs.Prelude.{◌≡◌, ℕ, ◌≤◌, [], ◌∷◌, ◌++◌, length, take, replicate};
 ghost use Rattle.program.specs.declared.command.Command.TheVariants.{Open, Close, Stop};
-ghost use Rattle.program.specs.Grammar.{bytes, written, letter_of, command_of};
+ghost use Rattle.program.specs.Grammar.{bytes, letter_of};
 ghost use Rattle.program.specs.Contexts.{at_pivot, at_choice, closed, end_mark, after_end};
 ghost use Rattle.program.specs.Outcome.{Parsed};
 ghost use Rattle.program.specs.Refusals.{step_count, Within};
@@ -15,9 +15,6 @@ const MAX_STEPS: usize = 32;
 
 const MAX_DEPTH: usize = 4;
 
-// How many bytes a step takes: its letter, one byte of activity and two of parameter.
-const STEP_BYTES: usize = 4;
-
 static BLANK: [Command; MAX_BYTES] = [Command::Stop; MAX_BYTES];
 
 // A table with nothing in it yet: lent, since it is faster to copy it as a whole than to write it entry by entry.
@@ -25,28 +22,6 @@ pub(crate) fn blank() -> &'static [Command; MAX_BYTES]
     ensures { result.now ≡ replicate 255 Stop }
 {
     &BLANK
-}
-
-impl Command {
-    // How many bytes the command takes.
-    fn width(self) -> usize
-        ensures { result ≡ length (written self) }
-    {
-        if self.is_step() { STEP_BYTES } else { 1 }
-    }
-}
-
-impl Kind {
-    // The command of a step of the kind.
-    fn command(self, activity: Activity) -> Command
-        ensures { result ≡ command_of self activity }
-    {
-        match self {
-            Kind::Compensatable => Command::C(activity),
-            Kind::Pivot => Command::P(activity),
-            Kind::Retriable => Command::R(activity),
-        }
-    }
 }
 
 // A text, the place of the next byte, and what was read up to there.

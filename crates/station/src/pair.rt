@@ -91,7 +91,7 @@ impl<A: Station, B: Station> Station for Pair<A, B> {
         u32::from(WHOLE)
     }
 
-    // (d) Each method names both halves: they have two types, so one method that picks would take a closure for each, no plainer than an arm.
+    // Each method names both halves: they have two types, so one method that picks would take a closure for each, no plainer than an arm.
     fn perform(&mut self, activity: Activity) -> Option<u32> {
         match half_of(activity.number)? {
             Half::First(number) => self.first.perform(Activity { number, ..activity }),

@@ -32,7 +32,7 @@ const CATALOGUE: Catalogue = Catalogue {
 };
 
 impl LaneCount {
-    // (d) An Option, as of std's NonZero: with TryFrom both callers below would throw its error away by ok().
+    // An Option, as of std's NonZero: with TryFrom both callers below would throw its error away by ok().
     fn new(value: u8) -> Option<LaneCount>
         ensures { result ≡ counted value }
     {

@@ -32,7 +32,7 @@ const CATALOGUE: Catalogue = Catalogue {
 };
 
 impl Stand {
-    // (d) An Option, as of std's NonZero: with TryFrom both callers below would throw its error away by ok().
+    // An Option, as of std's NonZero: with TryFrom both callers below would throw its error away by ok().
     fn new(value: u8) -> Option<Stand>
         ensures { result ≡ standing value }
     {
