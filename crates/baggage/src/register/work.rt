@@ -20,6 +20,7 @@ const ACTIVITIES: [BagActivity; 5] = [
 ];
 
 // The pairs 0-1, 0-2, 0-3 and 1-2 conflict.
+// A table of constants, the form in which the rules want a catalogue in the code.
 const CATALOGUE: Catalogue = Catalogue {
     kinds: KINDS,
     conflicts: [
