@@ -1,12 +1,9 @@
 // A station that is a row of cells: each activity works on the one cell that its parameter names.
-ghost use Rattle.std.specs.Prelude.{◌≡◌, length, slice_get};
+ghost use Rattle.std.specs.Prelude.{◌≡◌, refl, length, slice_get};
 
 use crate::cell::Cell;
 use activity::Activity;
 use station::Station;
-
-// How many activities there are.
-const COUNT: u32 = 5;
 
 #[derive(Drop)]
 pub struct Row<C, const N: usize> {
@@ -40,13 +37,17 @@ impl<C: Cell, const N: usize> Station for Row<C, N> {
     ghost use Rattle.baggage.specs.Row.{in_row};
     ghost use Rattle.baggage.specs.RowLaws;
 
-    const ACTIVITIES: u32 = COUNT;
+    const ACTIVITIES: u32 = 5;
+
+    ghost ACTIVITIES = { 5 };
 
     ghost State = { Row C N };
 
     ghost view = { λ s. s };
 
     ghost meaning = { in_row C.Cell.meaning N };
+
+    ghost counted = { refl };
 
     ghost restores = { RowLaws.restores C.Cell.laws N };
 
@@ -57,10 +58,6 @@ impl<C: Cell, const N: usize> Station for Row<C, N> {
     ghost retries = { RowLaws.retries C.Cell.laws N };
 
     ghost bounded = { RowLaws.bounded C.Cell.laws N };
-
-    fn activity_count() -> u32 {
-        COUNT
-    }
 
     fn perform(&mut self, activity: Activity) -> Option<u32> {
         let named = C::named(activity.number)?;

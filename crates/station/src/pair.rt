@@ -1,6 +1,6 @@
 // Two stations side by side.
 ghost use Rattle.station.specs.Pair.{paired, half, Both};
-ghost use Rattle.std.specs.Prelude.{◌≡◌};
+ghost use Rattle.std.specs.Prelude.{◌≡◌, refl};
 ghost use Rattle.station.specs.Paired;
 
 use crate::Station;
@@ -68,14 +68,19 @@ fn half_of(number: u8) -> Option<Half>
     }
 }
 
+// Each method names both halves: they have two types, so one method that picks would take a closure for each, no plainer than an arm.
 impl<A: Station, B: Station> Station for Pair<A, B> {
-    const ACTIVITIES: u32 = 64;
+    const ACTIVITIES: u32 = WHOLE as u32;
+
+    ghost ACTIVITIES = { 64 };
 
     ghost State = { Both A.Station.State B.Station.State };
 
     ghost view = { λ s. record { first = A.Station.view s.first; second = B.Station.view s.second } };
 
     ghost meaning = { paired A.Station.meaning B.Station.meaning };
+
+    ghost counted = { refl };
 
     ghost restores = { Paired.restores A.Station.meaning B.Station.meaning A.Station.restores B.Station.restores };
 
@@ -87,11 +92,6 @@ impl<A: Station, B: Station> Station for Pair<A, B> {
 
     ghost bounded = { Paired.bounded A.Station.meaning B.Station.meaning };
 
-    fn activity_count() -> u32 {
-        u32::from(WHOLE)
-    }
-
-    // Each method names both halves: they have two types, so one method that picks would take a closure for each, no plainer than an arm.
     fn perform(&mut self, activity: Activity) -> Option<u32> {
         match half_of(activity.number)? {
             Half::First(number) => self.first.perform(Activity { number, ..activity }),

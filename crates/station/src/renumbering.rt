@@ -57,11 +57,15 @@ fn shifted(activity: Activity, offset: u16) -> Activity
 impl<S: Station> Station for Renumbering<S> {
     const ACTIVITIES: u32 = S::ACTIVITIES;
 
+    ghost ACTIVITIES = { S.Station.ACTIVITIES };
+
     ghost State = { Renumbered S.Station.State };
 
     ghost view = { λ s. record { inner = S.Station.view s.inner; offset = s.offset } };
 
     ghost meaning = { renumbered S.Station.meaning };
+
+    ghost counted = { S.Station.counted };
 
     ghost restores = { RenumberedLaws.restores S.Station.meaning S.Station.restores };
 
@@ -72,10 +76,6 @@ impl<S: Station> Station for Renumbering<S> {
     ghost retries = { RenumberedLaws.retries S.Station.meaning S.Station.retries };
 
     ghost bounded = { RenumberedLaws.bounded S.Station.meaning S.Station.bounded };
-
-    fn activity_count() -> u32 {
-        S::activity_count()
-    }
 
     fn perform(&mut self, activity: Activity) -> Option<u32> {
         let below = shifted(activity, self.offset);

@@ -1,5 +1,5 @@
 // The station: what each kind of station offers, what it means, and the laws that it keeps.
-ghost use Rattle.std.specs.Prelude.{◌≡◌, nat_lt};
+ghost use Rattle.std.specs.Prelude.{◌≡◌, ℕ, nat_lt};
 ghost use Rattle.station.specs.Meaning.{Meaning, answer_of, state_after, Restores, Commutes, Symmetric, AlwaysPossible, Bounded};
 
 use activity::Activity;
@@ -10,6 +10,9 @@ pub trait Station {
     // How many activities there are. The numbers from there on do not exist.
     const ACTIVITIES: u32;
 
+    // The constant again, where a clause can name it.
+    ghost ACTIVITIES: { ℕ };
+
     // The states as the rules see them: where they are equal, the station behaves alike.
     ghost State: { Type 0 };
 
@@ -18,10 +21,6 @@ pub trait Station {
 
     // Which activities are possible in a state, what they answer and lead to, and the catalogue.
     ghost meaning: { Meaning State };
-
-    // The constant again, where a contract can speak of it.
-    fn activity_count() -> u32
-        ensures { result ≡ meaning.activities };
 
     // Performs the activity and gives its answer, or None where it is not possible: then the state stays.
     fn perform(&mut self, activity: Activity) -> Option<u32>
@@ -48,8 +47,11 @@ pub trait Station {
     fn exists(&self, number: u8) -> bool
         ensures { result ≡ nat_lt number meaning.activities }
     {
-        u32::from(number) < Self::activity_count()
+        u32::from(number) < Self::ACTIVITIES
     }
+
+    // The constant is the number of activities that the meaning has.
+    ghost counted: { meaning.activities ≡ ACTIVITIES };
 
     // Taking back a compensatable activity directly after performing it, with its answer, restores the state before.
     ghost restores: { Restores meaning };

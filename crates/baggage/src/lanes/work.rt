@@ -20,6 +20,7 @@ const ACTIVITIES: [LaneActivity; 5] = [
 ];
 
 // The pairs 0-1, 0-2, 0-3, 1-2 and 2-3 conflict.
+// A table of constants, the form in which the rules want a catalogue in the code.
 const CATALOGUE: Catalogue = Catalogue {
     kinds: KINDS,
     conflicts: [
@@ -82,6 +83,7 @@ impl Cell for Lane {
         }
     }
 
+    // The register's body is the same: a table in the trait, of the cell's own type, would need a law that it fits in memory, and one of its names.
     fn named(number: u8) -> Option<LaneActivity> {
         ACTIVITIES.get(usize::from(number)).copied()
     }

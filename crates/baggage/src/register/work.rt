@@ -7,8 +7,8 @@ use super::{Bag, BagActivity, Register, Stand};
 use crate::catalogue::{Catalogue, KINDS};
 use crate::cell::Cell;
 
-// How many stands there are, with 0 for none.
-const STANDS: u8 = 16;
+// How many stands there are, with 0 for none: a parameter is the bag times this, and the stand.
+const STANDS: u16 = 16;
 
 // The activities by number.
 const ACTIVITIES: [BagActivity; 5] = [
@@ -20,6 +20,7 @@ const ACTIVITIES: [BagActivity; 5] = [
 ];
 
 // The pairs 0-1, 0-2, 0-3 and 1-2 conflict.
+// A table of constants, the form in which the rules want a catalogue in the code.
 const CATALOGUE: Catalogue = Catalogue {
     kinds: KINDS,
     conflicts: [
@@ -36,7 +37,7 @@ impl Stand {
     fn new(value: u8) -> Option<Stand>
         ensures { result ≡ standing value }
     {
-        if value > 0 && value < STANDS {
+        if value > 0 && u16::from(value) < STANDS {
             Some(Stand { value })
         } else {
             None
@@ -98,12 +99,12 @@ impl Cell for Bag {
     }
 
     fn place(parameter: u16) -> usize {
-        usize::from(parameter / 16)
+        usize::from(parameter / STANDS)
     }
 
     fn perform(self, activity: BagActivity, parameter: u16) -> Option<(u32, Bag)> {
         match activity {
-            BagActivity::Enter => self.entered(Stand::new((parameter % 16) as u8)),
+            BagActivity::Enter => self.entered(Stand::new((parameter % STANDS) as u8)),
             BagActivity::Strike => self.if_open(Bag {
                 stand: None,
                 ..self
@@ -130,7 +131,7 @@ impl Cell for Bag {
                 ..self
             },
             BagActivity::Strike => Bag {
-                stand: Stand::new((answer % 16) as u8),
+                stand: Stand::new((answer % u32::from(STANDS)) as u8),
                 ..self
             },
             BagActivity::Look | BagActivity::Seal | BagActivity::Report => self,
