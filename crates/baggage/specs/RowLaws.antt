@@ -1,6 +1,7 @@
 -- A row of cells keeps the laws that its cells keep.
 use Rattle.std.specs.Prelude.{◌≡◌, ◌||◌, ℕ, ◌<◌, ◌≤◌, Bool, true, false, cond, ◌≢◌, ◌⊎◌, List, length, is_some, Some, None, Option, MatchOption, slice_get, slice_index_or, refl}
 use Rattle.std.proofs.Common.{sym, ap, ◌∙◌, subst, inl, inr, ⊎_elim, arith, get_or-set_same, get_or-set_other, set-set}
+use Rattle.std.specs.List.{AllByRecursion}
 use Rattle.std.proofs.Math.Nat.{ℕ_set}
 use Rattle.std.proofs.lemmas.Bool.{cases_eq, cases_lt}
 use Rattle.std.proofs.lemmas.List.{set-get_or, set_comm}
@@ -8,10 +9,10 @@ use Rattle.std.proofs.lemmas.Option.{slice_get_cases, slice_get_past, slice_get-
 use Rattle.station.specs.Meaning.{Restores, Commutes, Symmetric, AlwaysPossible, Bounded}
 use Rattle.station.specs.Part.{parts, outcome, Part, Swap, over, inside, back, swap_over, swap_apart, lifted_possible}
 use Rattle.baggage.specs.declared.row.Row.{Row}
-use Rattle.baggage.specs.Tabled.{matched}
+use Rattle.baggage.specs.Tabled.{matched, proper}
 use Rattle.baggage.specs.Tables.{of_listed, every, at}
 use Rattle.baggage.specs.Tables as tables
-use Rattle.baggage.specs.Cell.{CellMeaning, CellLaws, Undone, Ready, Named, Free}
+use Rattle.baggage.specs.Cell.{CellMeaning, Undone, Ready, Named, Free}
 use Rattle.baggage.specs.Row.{with_cell, performed_at, taken_back_at, in_row}
 
 -- possible or not, with no effect
@@ -153,33 +154,35 @@ module _ {C K : Type 0} (m : CellMeaning C K) (free : K → K → Bool) where
       let inner = at (λ l k. matched m.listing.conflicts n l || free h k) m.names outer l k ik in
       law h k (rw c at inner) p q s
 
-module _ {C K : Type 0} {m : CellMeaning C K} (laws : CellLaws m) (N : ℕ) where
-  pub restores : Restores (in_row m N)
-  restores s t a x c e =
-      restores_at m (slice_get m.names a.number) (of_listed (Named m (Undone m)) m.listing.compensatables laws.undone a.number c) a.parameter x s t e
+module _ {C K : Type 0} (m : CellMeaning C K) (N : ℕ) where
+  pub restores : AllByRecursion (Named m (Undone m)) m.listing.compensatables → Restores (in_row m N)
+  restores law s t a x c e =
+      restores_at m (slice_get m.names a.number) (of_listed (Named m (Undone m)) m.listing.compensatables law a.number c) a.parameter x s t e
 
-  commutes_at : (n l p q : ℕ) → matched m.listing.conflicts n l ≡ false → (h k : Option K) → slice_get m.names n ≡ h → slice_get m.names l ≡ k → (s : Row C N) → Swap (λ w. performed_at m h (slice_get w.cells (m.place p)) w p) (λ w. performed_at m k (slice_get w.cells (m.place q)) w q) s
-  commutes_at n l p q c None k ih ik s = λ t u x y e f. (s, cc, cc)
-  commutes_at n l p q c (Some h) None ih ik s = λ t u x y e f. (s, cc, cc)
-  commutes_at n l p q c (Some h) (Some k) ih ik s = swap_acts m h k p q (laws.free n l h k ih ik c p q) s
+  commutes_at : Free m → (n l p q : ℕ) → matched m.listing.conflicts n l ≡ false → (h k : Option K) → slice_get m.names n ≡ h → slice_get m.names l ≡ k → (s : Row C N) → Swap (λ w. performed_at m h (slice_get w.cells (m.place p)) w p) (λ w. performed_at m k (slice_get w.cells (m.place q)) w q) s
+  commutes_at law n l p q c None k ih ik s = λ t u x y e f. (s, cc, cc)
+  commutes_at law n l p q c (Some h) None ih ik s = λ t u x y e f. (s, cc, cc)
+  commutes_at law n l p q c (Some h) (Some k) ih ik s = swap_acts m h k p q (law n l h k ih ik c p q) s
 
-  pub commutes : Commutes (in_row m N)
-  commutes s t u a b x y c e f =
-      commutes_at a.number b.number a.parameter b.parameter c (slice_get m.names a.number) (slice_get m.names b.number) refl refl s t u x y e f
+  pub commutes : Free m → Commutes (in_row m N)
+  commutes law s t u a b x y c e f =
+      commutes_at law a.number b.number a.parameter b.parameter c (slice_get m.names a.number) (slice_get m.names b.number) refl refl s t u x y e f
 
-  pub symmetric : Symmetric (in_row m N)
-  symmetric = tables.symmetric m.listing laws.passes
+  pub retries : AllByRecursion (Named m (Ready m)) m.listing.retriables → AlwaysPossible (in_row m N)
+  retries law s a c =
+      retries_at m (slice_get m.names a.number) (of_listed (Named m (Ready m)) m.listing.retriables law a.number c) a.parameter s (slice_get s.cells (m.place a.parameter))
 
-  pub retries : AlwaysPossible (in_row m N)
-  retries s a c =
-      retries_at m (slice_get m.names a.number) (of_listed (Named m (Ready m)) m.listing.retriables laws.ready a.number c) a.parameter s (slice_get s.cells (m.place a.parameter))
+  -- the listing's test gives the rest
+  module _ (passes : proper m.listing ≡ true) where
+    pub symmetric : Symmetric (in_row m N)
+    symmetric = tables.symmetric m.listing passes
 
-  pub bounded : Bounded (in_row m N)
-  bounded n above =
-      let past : slice_get m.names n ≡ None = slice_get_past m.names n (omega (arith, laws.five)) in record {
-        impossible = λ s a e. ap (λ o. performed_at m o (slice_get s.cells (m.place a.parameter)) s a.parameter) (ap (slice_get m.names) e ∙ past);
-        nothing = λ s a x e. ap (λ o. taken_back_at m o (slice_get s.cells (m.place a.parameter)) s a.parameter x) (ap (slice_get m.names) e ∙ past);
-        not_compensatable = tables.not_compensatable m.listing laws.passes n above;
-        not_retriable = tables.not_retriable m.listing laws.passes n above;
-        without_conflict = λ k. tables.without_conflict m.listing laws.passes n k above;
-      }
+    pub bounded : length m.names ≡ 5 → Bounded (in_row m N)
+    bounded five n above =
+        let past : slice_get m.names n ≡ None = slice_get_past m.names n (omega (arith, five)) in record {
+          impossible = λ s a e. ap (λ o. performed_at m o (slice_get s.cells (m.place a.parameter)) s a.parameter) (ap (slice_get m.names) e ∙ past);
+          nothing = λ s a x e. ap (λ o. taken_back_at m o (slice_get s.cells (m.place a.parameter)) s a.parameter x) (ap (slice_get m.names) e ∙ past);
+          not_compensatable = tables.not_compensatable m.listing passes n above;
+          not_retriable = tables.not_retriable m.listing passes n above;
+          without_conflict = λ k. tables.without_conflict m.listing passes n k above;
+        }
