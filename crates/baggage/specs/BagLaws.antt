@@ -222,16 +222,16 @@ laws = record {
 
 -- ---- and so the 256 keep those of a station
 pub restores : Restores register_meaning
-restores = row.restores laws 256
+restores = row.restores bag_meaning 256 laws.undone
 
 pub commutes : Commutes register_meaning
-commutes = row.commutes laws 256
+commutes = row.commutes bag_meaning 256 laws.free
 
 pub symmetric : Symmetric register_meaning
-symmetric = row.symmetric laws 256
+symmetric = row.symmetric bag_meaning 256 laws.passes
 
 pub retries : AlwaysPossible register_meaning
-retries = row.retries laws 256
+retries = row.retries bag_meaning 256 laws.ready
 
 pub bounded : Bounded register_meaning
-bounded = row.bounded laws 256
+bounded = row.bounded bag_meaning 256 laws.passes laws.five

@@ -157,19 +157,19 @@ laws = record {
 
 -- ---- and so the sixteen keep those of a station
 pub restores : Restores lanes_meaning
-restores = row.restores laws 16
+restores = row.restores lane_meaning 16 laws.undone
 
 pub commutes : Commutes lanes_meaning
-commutes = row.commutes laws 16
+commutes = row.commutes lane_meaning 16 laws.free
 
 pub symmetric : Symmetric lanes_meaning
-symmetric = row.symmetric laws 16
+symmetric = row.symmetric lane_meaning 16 laws.passes
 
 pub retries : AlwaysPossible lanes_meaning
-retries = row.retries laws 16
+retries = row.retries lane_meaning 16 laws.ready
 
 pub bounded : Bounded lanes_meaning
-bounded = row.bounded laws 16
+bounded = row.bounded lane_meaning 16 laws.passes laws.five
 
 -- ---- the lane at first
 pub is_empty : (h : 0 ≤ 200) → ◌≡◌ {A = Lane} (record { count = count_of 0 h; flag = false }) empty_lane

@@ -1,10 +1,12 @@
 pub mod Tabled
 pub mod Cell
+pub mod Cells
 pub mod Row
 pub mod Lanes
 pub mod Register
 pub mod LaneLaws
 pub mod Swaps
 pub mod Tables
+pub mod CellsLaws
 pub mod RowLaws
 pub mod BagLaws

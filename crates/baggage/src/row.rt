@@ -49,15 +49,15 @@ impl<C: Cell, const N: usize> Station for Row<C, N> {
 
     ghost counted = { refl };
 
-    ghost restores = { RowLaws.restores C.Cell.laws N };
+    ghost restores = { RowLaws.restores C.Cell.meaning N C.Cell.laws.undone };
 
-    ghost commutes = { RowLaws.commutes C.Cell.laws N };
+    ghost commutes = { RowLaws.commutes C.Cell.meaning N C.Cell.laws.free };
 
-    ghost symmetric = { RowLaws.symmetric C.Cell.laws N };
+    ghost symmetric = { RowLaws.symmetric C.Cell.meaning N C.Cell.laws.passes };
 
-    ghost retries = { RowLaws.retries C.Cell.laws N };
+    ghost retries = { RowLaws.retries C.Cell.meaning N C.Cell.laws.ready };
 
-    ghost bounded = { RowLaws.bounded C.Cell.laws N };
+    ghost bounded = { RowLaws.bounded C.Cell.meaning N C.Cell.laws.passes C.Cell.laws.five };
 
     fn perform(&mut self, activity: Activity) -> Option<u32> {
         let named = C::named(activity.number)?;
