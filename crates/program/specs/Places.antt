@@ -7,6 +7,7 @@ use Rattle.program.specs.declared.command.Command.TheVariants.{C, P, R, Open, Ba
 use Rattle.program.specs.declared.command.Kind.{Kind}
 use Rattle.program.specs.declared.command.Kind.TheVariants.{Compensatable, Pivot, Retriable}
 use Rattle.program.specs.declared.command.Step.{Step}
+use Rattle.program.specs.declared.cursor.Choices.{Choices as Taken}
 use Rattle.program.specs.declared.cursor.Cursor.{Cursor}
 use Rattle.program.specs.declared.program.Program.{Program}
 use Rattle.program.specs.Grammar.{Body, finish, compensatable, pivot, Choices, row, or_else, text_commands, step}
@@ -83,8 +84,17 @@ placed cs at (Some from) k = inner (choices_at (drop from cs)) k (rest_at (drop 
 abbrev pub tree : Program → Body
 tree p = body_at (program_commands p)
 
+-- the index at which a cursor's choices begin, if it stands in any, and the alternative taken among them; before any pivot, 0
+abbrev pub begun : Option Taken → Option ℕ
+begun None = None
+begun (Some c) = Some c.from
+
+abbrev pub taken : Option Taken → ℕ
+taken None = 0
+taken (Some c) = c.alternative
+
 abbrev pub position : Program → Cursor → Position
-position p c = placed (program_commands p) c.at c.choices c.alternative
+position p c = placed (program_commands p) c.at (begun c.choices) (taken c.choices)
 
 -- a program spells its tree
 abbrev pub Spells : Type 0
@@ -183,7 +193,7 @@ left_in cs at choices = record { here = drop at cs; choices = text_from cs choic
 
 -- what is left at a cursor
 abbrev pub left_at : Program → Cursor → Left
-left_at p c = left_in (program_commands p) c.at c.choices
+left_at p c = left_in (program_commands p) c.at (begun c.choices)
 
 -- at the beginning all of the text is left
 abbrev pub all_left : Program → Left

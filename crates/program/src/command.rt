@@ -67,6 +67,7 @@ impl fmt::Display for Step {
 }
 
 // A command of a text: a step by its letter C, P or R, or one of the marks `[`, `|`, `]` and the full stop.
+// C, P and R are three cases, and not one that holds a Step: they are the letters of the grammar, and the definitions go by them.
 #[derive(Clone, Copy, Debug, PartialEq, Eq)]
 pub enum Command {
     C(Activity),
@@ -118,7 +119,7 @@ impl Command {
     pub(crate) fn is_step(self) -> bool
         ensures { (if result then 1 else 0) ≡ weight self }
     {
-        matches!(self, Command::C(_) | Command::P(_) | Command::R(_))
+        self.step().is_some()
     }
 
     // How many bytes the command takes.

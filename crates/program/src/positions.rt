@@ -2,8 +2,9 @@
 ghost use Rattle.std.specs.Prelude.{◌≡◌, ℕ, ◌+◌, ◌<◌, ◌≤◌, length, drop, Some};
 ghost use Rattle.program.specs.Grammar.{body_steps, text_commands};
 ghost use Rattle.program.specs.Positions.{outer, next as what_comes, coming, onward as led_on, alternative_of, into as gone_into};
-ghost use Rattle.program.specs.Places.{Found, program_commands, tree, position, nth, first, item_for, row_mark, starts_row, skip, Deeper, steps_among, steps_before, left_at, all_left, left_after, left_into, Spells};
+ghost use Rattle.program.specs.Places.{Found, program_commands, tree, position, nth, first, begun, item_for, row_mark, starts_row, skip, Deeper, steps_among, steps_before, left_at, all_left, left_after, left_into, Spells};
 
+use crate::cursor::Choices;
 use crate::{Command, Cursor, Kind, Program, Step};
 
 impl Cursor {
@@ -15,7 +16,6 @@ impl Cursor {
         Cursor {
             at: 0,
             choices: None,
-            alternative: 0,
         }
     }
 
@@ -24,10 +24,7 @@ impl Cursor {
         ensures is { (p : Program) → result ≡ alternative_of (position p self) }
         ensures low { result ≤ 254 }
     {
-        match self.choices {
-            None => 0,
-            Some(_) => self.alternative,
-        }
+        self.choices.map_or(0, |choices| choices.alternative)
     }
 }
 
@@ -45,8 +42,8 @@ fn depth_after(command: Command, depth: usize) -> Option<usize>
 }
 
 // The step that a command is to a process, inside choices or not: a retriable step stands only inside.
-fn step_for(command: Command, choices: Option<usize>) -> Option<Step>
-    ensures { result ≡ item_for command choices }
+fn step_for(command: Command, choices: Option<Choices>) -> Option<Step>
+    ensures { result ≡ item_for command (begun choices) }
 {
     command
         .step()
@@ -107,22 +104,20 @@ impl Program {
         let Some(step) = self.next(cursor) else {
             return cursor;
         };
-        // Field by field: `..cursor` is refused where a struct has a ghost field.
-        let Cursor {
-            at,
-            choices,
-            alternative,
-        } = cursor;
         match step.kind {
-            Kind::Pivot => Cursor {
-                at: at + 2,
-                choices: Some(at + 2),
-                alternative: 0,
-            },
+            Kind::Pivot => {
+                let from = cursor.at + 2;
+                Cursor {
+                    at: from,
+                    choices: Some(Choices {
+                        from,
+                        alternative: 0,
+                    }),
+                }
+            }
             _ => Cursor {
-                at: at + 1,
-                choices,
-                alternative,
+                at: cursor.at + 1,
+                ..cursor
             },
         }
     }
@@ -135,6 +130,7 @@ impl Program {
         let commands = self.commands();
         let mut rest = &commands[from.min(commands.len())..];
         let mut alternative = 0;
+        // It counts: the ordinal is what is asked for, and no index; past the last alternative it is less than k.
         while alternative < k && !starts_row(rest) {
             rest = past_bar(rest);
             alternative += 1;
@@ -147,14 +143,13 @@ impl Program {
         ensures place { position self.now result ≡ gone_into k (position self.now cursor) }
         ensures left { left_at self.now result ≡ left_into k (left_at self.now cursor) }
     {
-        let Some(from) = cursor.choices else {
+        let Some(Choices { from, .. }) = cursor.choices else {
             return cursor;
         };
         let (at, alternative) = self.alternative_at(from, k);
         Cursor {
             at,
-            choices: cursor.choices,
-            alternative,
+            choices: Some(Choices { from, alternative }),
         }
     }
 

@@ -3,7 +3,7 @@ use borrow.Author.Tests.{tests}
 use Rattle.std.proofs.lemmas.Iterator.{YieldsList-from_slice, YieldsList-from_take}
 use Rattle.std.proofs.lemmas.Iterator.Consumers.{YieldsList-from_filter_map, count_from_yields_List}
 use Rattle.program.specs.Grammar.{body_steps}
-use Rattle.program.specs.Places.{program_commands, nth, tree, step_of, steps_before}
+use Rattle.program.specs.Places.{program_commands, nth, tree, step_of, steps_before, begun, taken}
 use Rattle.program.proofs.Cursors.{ordinal_names, steps_left}
 use Rattle.program.proofs.program.Program.ordinal.Goals as goal
 
@@ -15,5 +15,5 @@ returns c =
     record {
       count = count;
       left = omega (arith, count, steps_left p c.args.cursor.at);
-      names = λ s e. ap (nth (body_steps (tree p))) count ∙ ordinal_names p c.args.cursor.at c.args.cursor.choices c.args.cursor.alternative s e;
+      names = λ s e. ap (nth (body_steps (tree p))) count ∙ ordinal_names p c.args.cursor.at (begun c.args.cursor.choices) (taken c.args.cursor.choices) s e;
     }
