@@ -4,30 +4,21 @@ use std::test::Fail;
 
 #[test]
 fn thirty_two_steps_are_read_and_thirty_three_refused(rt: HostRuntime) -> Result<(), Fail> {
-    let heap = rt.alloc();
-    expect_parts(&rt, heap, &[("C 00 0003", 32), (".", 1)], 0)?;
-    expect_parts(&rt, heap, &[("C 00 0003", 33), (".", 1)], refused(4, 128))?;
-    expect_parts(
-        &rt,
-        heap,
-        &[("P 00 0003 [", 1), ("R 00 0003", 31), ("] .", 1)],
-        0,
-    )
+    expect_parts(&rt, &[("C 00 0003", 32), (".", 1)], 0)?;
+    expect_parts(&rt, &[("C 00 0003", 33), (".", 1)], refused(4, 128))?;
+    expect_parts(&rt, &[("P 00 0003 [", 1), ("R 00 0003", 31), ("] .", 1)], 0)
 }
 
 #[test]
 fn the_longest_text_is_read(rt: HostRuntime) -> Result<(), Fail> {
-    let heap = rt.alloc();
-    expect_parts(&rt, heap, &[("P 00 0000 [", 1), ("|", 248), ("] .", 1)], 0)?;
+    expect_parts(&rt, &[("P 00 0000 [", 1), ("|", 248), ("] .", 1)], 0)?;
     expect_parts(
         &rt,
-        heap,
         &[("P 00 0000 [", 1), ("|", 249), ("] .", 1)],
         refused(1, 255),
     )?;
     expect_parts(
         &rt,
-        heap,
         &[("P 00 0000 [", 1), ("|", 600), ("] .", 1)],
         refused(1, 255),
     )
@@ -35,16 +26,14 @@ fn the_longest_text_is_read(rt: HostRuntime) -> Result<(), Fail> {
 
 #[test]
 fn first_places(rt: HostRuntime) -> Result<(), Fail> {
-    let heap = rt.alloc();
-    expect(&rt, heap, "", refused(3, 0))?;
-    expect(&rt, heap, "00", refused(2, 0))?;
-    expect(&rt, heap, "R 04 0003", refused(2, 0))?;
-    expect(&rt, heap, "C", refused(3, 0))?;
-    expect(&rt, heap, "C 00 00", refused(3, 0))?;
-    expect(&rt, heap, ". .", refused(6, 1))?;
+    expect(&rt, "", refused(3, 0))?;
+    expect(&rt, "00", refused(2, 0))?;
+    expect(&rt, "R 04 0003", refused(2, 0))?;
+    expect(&rt, "C", refused(3, 0))?;
+    expect(&rt, "C 00 00", refused(3, 0))?;
+    expect(&rt, ". .", refused(6, 1))?;
     expect(
         &rt,
-        heap,
         "P000000[ P000000[ P000000[ P000000[ P000000[",
         refused(5, 24),
     )
@@ -52,34 +41,24 @@ fn first_places(rt: HostRuntime) -> Result<(), Fail> {
 
 #[test]
 fn last_places(rt: HostRuntime) -> Result<(), Fail> {
-    let heap = rt.alloc();
     expect_parts(
         &rt,
-        heap,
         &[("P 00 0000 [", 1), ("|", 249), (".", 1)],
         refused(2, 254),
     )?;
+    expect_parts(&rt, &[("P 00 0000 [", 1), ("|", 250)], refused(3, 255))?;
     expect_parts(
         &rt,
-        heap,
-        &[("P 00 0000 [", 1), ("|", 250)],
-        refused(3, 255),
-    )?;
-    expect_parts(
-        &rt,
-        heap,
         &[("P 00 0000 [", 1), ("|", 249), ("C", 1)],
         refused(3, 254),
     )?;
     expect_parts(
         &rt,
-        heap,
         &[("P 00 0000 [", 1), ("|", 247), ("] . .", 1)],
         refused(6, 254),
     )?;
     expect_parts(
         &rt,
-        heap,
         &[
             ("P000000[ P000000[ P000000[ P000000[", 1),
             ("|", 230),
@@ -89,7 +68,6 @@ fn last_places(rt: HostRuntime) -> Result<(), Fail> {
     )?;
     expect_parts(
         &rt,
-        heap,
         &[("C000000", 31), ("P000000 [", 1), ("|", 125), ("R", 1)],
         refused(4, 254),
     )
@@ -97,79 +75,60 @@ fn last_places(rt: HostRuntime) -> Result<(), Fail> {
 
 #[test]
 fn too_long_comes_first(rt: HostRuntime) -> Result<(), Fail> {
-    let heap = rt.alloc();
-    expect_parts(&rt, heap, &[("00", 256)], refused(1, 255))?;
-    expect_parts(&rt, heap, &[(".", 256)], refused(1, 255))?;
-    expect_parts(&rt, heap, &[("C000000", 64)], refused(1, 255))
+    expect_parts(&rt, &[("00", 256)], refused(1, 255))?;
+    expect_parts(&rt, &[(".", 256)], refused(1, 255))?;
+    expect_parts(&rt, &[("C000000", 64)], refused(1, 255))
 }
 
 #[test]
 fn misplaced_comes_before_limits_and_operands(rt: HostRuntime) -> Result<(), Fail> {
-    let heap = rt.alloc();
-    expect_parts(&rt, heap, &[("C 00 0003", 32), ("00", 1)], refused(2, 128))?;
+    expect_parts(&rt, &[("C 00 0003", 32), ("00", 1)], refused(2, 128))?;
     expect_parts(
         &rt,
-        heap,
         &[("C 00 0003", 32), ("R 00 0003 .", 1)],
         refused(2, 128),
     )?;
-    expect_parts(&rt, heap, &[("C 00 0003", 32), ("R", 1)], refused(2, 128))?;
-    expect(&rt, heap, "R", refused(2, 0))?;
+    expect_parts(&rt, &[("C 00 0003", 32), ("R", 1)], refused(2, 128))?;
+    expect(&rt, "R", refused(2, 0))?;
     expect(
         &rt,
-        heap,
         "P000000[ P000000[ P000000[ P000000[ C000000 [",
         refused(2, 24),
     )?;
-    expect(&rt, heap, "[ . .", refused(2, 0))
+    expect(&rt, "[ . .", refused(2, 0))
 }
 
 #[test]
 fn limits_come_before_operands(rt: HostRuntime) -> Result<(), Fail> {
-    let heap = rt.alloc();
-    expect_parts(&rt, heap, &[("C 00 0003", 32), ("C", 1)], refused(4, 128))?;
-    expect_parts(
-        &rt,
-        heap,
-        &[("C 00 0003", 32), ("P 00 00", 1)],
-        refused(4, 128),
-    )?;
+    expect_parts(&rt, &[("C 00 0003", 32), ("C", 1)], refused(4, 128))?;
+    expect_parts(&rt, &[("C 00 0003", 32), ("P 00 00", 1)], refused(4, 128))?;
     expect(
         &rt,
-        heap,
         "P000000[ P000000[ P000000[ P000000[ P00",
         refused(3, 20),
     )?;
-    expect(&rt, heap, "P 00 00", refused(3, 0))
+    expect(&rt, "P 00 00", refused(3, 0))
 }
 
 #[test]
 fn trailing_whatever_follows(rt: HostRuntime) -> Result<(), Fail> {
-    let heap = rt.alloc();
-    expect(&rt, heap, ". 00", refused(6, 1))?;
-    expect(&rt, heap, "C 00 0003 . C", refused(6, 5))?;
-    expect(&rt, heap, "P 00 0000 [ ] . ]", refused(6, 7))
+    expect(&rt, ". 00", refused(6, 1))?;
+    expect(&rt, "C 00 0003 . C", refused(6, 5))?;
+    expect(&rt, "P 00 0000 [ ] . ]", refused(6, 7))
 }
 
 #[test]
 fn what_can_stand_where(rt: HostRuntime) -> Result<(), Fail> {
-    let heap = rt.alloc();
-    expect(&rt, heap, "P 00 0000 .", refused(2, 4))?;
-    expect(&rt, heap, "P 00 0000 C 00 0000 .", refused(2, 4))?;
-    expect(&rt, heap, "P 00 0000 [ ] C 00 0000 .", refused(2, 6))?;
-    expect(&rt, heap, "P 00 0000 [ ] | .", refused(2, 6))?;
-    expect(&rt, heap, "P 00 0000 [ R 00 0000 | ] .", refused(2, 9))?;
+    expect(&rt, "P 00 0000 .", refused(2, 4))?;
+    expect(&rt, "P 00 0000 C 00 0000 .", refused(2, 4))?;
+    expect(&rt, "P 00 0000 [ ] C 00 0000 .", refused(2, 6))?;
+    expect(&rt, "P 00 0000 [ ] | .", refused(2, 6))?;
+    expect(&rt, "P 00 0000 [ R 00 0000 | ] .", refused(2, 9))?;
+    expect(&rt, "P 00 0000 [ R 00 0000 C 00 0000 | ] .", refused(2, 9))?;
+    expect(&rt, "P 00 0000 [ P 00 0000 [ ] ] .", refused(2, 11))?;
+    expect(&rt, "P 00 0000 [ C 00 0000 . ] .", refused(2, 9))?;
     expect(
         &rt,
-        heap,
-        "P 00 0000 [ R 00 0000 C 00 0000 | ] .",
-        refused(2, 9),
-    )?;
-    expect(&rt, heap, "P 00 0000 [ P 00 0000 [ ] ] .", refused(2, 11))?;
-    expect(&rt, heap, "P 00 0000 [ C 00 0000 . ] .", refused(2, 9))?;
-    expect(
-        &rt,
-        heap,
         "P 00 0000 [ P 00 0000 [ ] | | C 00 0000 | R 00 0000 ] .",
         0,
     )

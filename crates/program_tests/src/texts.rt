@@ -1,7 +1,6 @@
 // Texts for the tests, in the written notation or put together from parts.
 use notation::decode;
 use program::program_text_check;
-use std::alloc::Global;
 use std::process::Abort;
 use std::test::Fail;
 
@@ -11,22 +10,21 @@ pub fn refused(number: u16, place: u16) -> u32 {
 }
 
 // The text written so gets this answer.
-pub fn expect(rt: &impl Abort, heap: Global, line: &str, answer: u32) -> Result<(), Fail> {
-    let bytes = decode(heap, line.as_bytes())?;
+pub fn expect(rt: &(impl Abort + AllocGlobal), line: &str, answer: u32) -> Result<(), Fail> {
+    let bytes = decode(rt.alloc(), line.as_bytes())?;
     assert_eq!(rt; program_text_check(bytes.as_slice()), answer, "{}", line);
     Ok(())
 }
 
 // The text of these parts, each so many times over, gets this answer.
 pub fn expect_parts(
-    rt: &impl Abort,
-    heap: Global,
+    rt: &(impl Abort + AllocGlobal),
     parts: &[(&str, usize)],
     answer: u32,
 ) -> Result<(), Fail> {
-    let mut line = String::new(heap);
+    let mut line = String::new(rt.alloc());
     for &(part, times) in parts {
-        line.push_str(part.repeat(heap, times)?.as_str())?;
+        line.push_str(part.repeat(rt.alloc(), times)?.as_str())?;
     }
-    expect(rt, heap, line.as_str(), answer)
+    expect(rt, line.as_str(), answer)
 }

@@ -2,12 +2,11 @@
 use activity::Activity;
 use notation::decode;
 use program::{Cursor, Kind, Program, Step, read};
-use std::alloc::Global;
 use std::process::Abort;
 use std::test::Fail;
 
-fn program(rt: &impl Abort, heap: Global, line: &str) -> Result<Program, Fail> {
-    let bytes = decode(heap, line.as_bytes())?;
+fn program(rt: &(impl Abort + AllocGlobal), line: &str) -> Result<Program, Fail> {
+    let bytes = decode(rt.alloc(), line.as_bytes())?;
     let reading = read(bytes.as_slice());
     assert_eq!(rt; reading.number(), 0);
     assert_eq!(rt; reading.place(), 0);
@@ -25,7 +24,6 @@ fn step(kind: Kind, number: u8, parameter: u16) -> Option<Step> {
 fn a_way_through_nested_alternatives(rt: HostRuntime) -> Result<(), Fail> {
     let p = program(
         &rt,
-        rt.alloc(),
         "C 00 0065 P 23 0013 [ C 20 0015 P 23 0015 [ R 24 0015 ] | | R 24 0013 R 04 0065 ] .",
     )?;
     let start = Cursor::start();
@@ -48,7 +46,7 @@ fn a_way_through_nested_alternatives(rt: HostRuntime) -> Result<(), Fail> {
 
 #[test]
 fn the_last_alternative_is_the_last(rt: HostRuntime) -> Result<(), Fail> {
-    let p = program(&rt, rt.alloc(), "P 04 0003 [ C 01 0003 | ] .")?;
+    let p = program(&rt, "P 04 0003 [ C 01 0003 | ] .")?;
     let first = p.onward(Cursor::start());
     let last = p.into_alternative(first, 9);
     assert_eq!(rt; last.alternative(), 1);
@@ -60,7 +58,7 @@ fn the_last_alternative_is_the_last(rt: HostRuntime) -> Result<(), Fail> {
 
 #[test]
 fn steps_by_ordinal(rt: HostRuntime) -> Result<(), Fail> {
-    let p = program(&rt, rt.alloc(), "C 00 0003 P 03 0003 [ R 04 0003 ] .")?;
+    let p = program(&rt, "C 00 0003 P 03 0003 [ R 04 0003 ] .")?;
     assert_eq!(rt; p.step(0), step(Kind::Compensatable, 0, 3));
     assert_eq!(rt; p.step(1), step(Kind::Pivot, 3, 3));
     assert_eq!(rt; p.step(2), step(Kind::Retriable, 4, 3));

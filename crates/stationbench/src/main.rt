@@ -36,6 +36,7 @@ fn work<S: Station>(subject: &mut S, line: Line) -> Outcome
     ensures outcome { result ≡ outcome_of S.Station.meaning (S.Station.view subject.old) line }
     ensures state { S.Station.view subject.new ≡ state_of S.Station.meaning (S.Station.view subject.old) line }
 {
+    // A match, since each line makes another call of the station, with an answer of another kind.
     match line {
         Line::Blank => Outcome::Nothing,
         Line::State => Outcome::State,
@@ -56,22 +57,22 @@ fn work<S: Station>(subject: &mut S, line: Line) -> Outcome
 }
 
 // Prints what a line gave, or what is wrong with it.
-fn answer(rt: &impl Print, rig: &mut Rig, place: u64, text: &[u8]) -> io::Result<()> {
+fn answer(rt: &impl Print, rig: &mut Rig, number: u64, text: &[u8]) -> io::Result<()> {
     match read(text) {
         Ok(line) => match work(rig, line) {
             Outcome::Nothing => Ok(()),
             Outcome::State => shown::state(rt, rig.first().inner(), rig.second()),
             outcome => println!(rt; "{line}: {outcome}"),
         },
-        Err(mistake) => println!(rt; "line {place}, {mistake}"),
+        Err(mistake) => println!(rt; "line {number}, {mistake}"),
     }
 }
 
 fn run(rt: &(impl Print + AllocGlobal), input: impl Read + Drop) -> io::Result<()> {
     let mut rig = rig();
     let lines = BufReader::new(rt.alloc(), input)?.split(rt.alloc(), b'\n');
-    for (place, text) in (1u64..).zip(lines) {
-        answer(rt, &mut rig, place, text?.as_slice())?;
+    for (number, text) in (1u64..).zip(lines) {
+        answer(rt, &mut rig, number, text?.as_slice())?;
     }
     Ok(())
 }

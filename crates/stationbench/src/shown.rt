@@ -9,6 +9,18 @@ const LANES: u8 = 16;
 // The tag of lane 0.
 const FIRST_TAG: u16 = 101;
 
+const HELP: &str = "\
+stationbench works the rig's station: 0 to 4 are the activities of Lanes, whose parameters are the
+tags 101 to 116, and 32 to 36 those of the Register, whose parameters are bag x 16 + stand.
+It reads lines from standard input:
+  perform NUMBER PARAMETER            performs an activity and prints its answer
+  take-back NUMBER PARAMETER ANSWER   takes back an activity that gave this answer
+  conflict NUMBER NUMBER              says whether two activities conflict
+  kinds NUMBER                        says whether an activity is compensatable and retriable
+  state                               prints the lanes and bags that are not in their first state
+Blank lines are passed over, and so is what follows a '#'.
+";
+
 // The word of a mark that is set, nothing of one that is not.
 fn mark(set: bool, word: &'static str) -> &'static str
     ensures { result.now ≡ (if set then word.now else []) }
@@ -52,6 +64,7 @@ fn bag(rt: &impl Print, register: &Register, bag: u8) -> io::Result<bool> {
 pub fn state(rt: &impl Print, lanes: &Lanes, register: &Register) -> io::Result<()> {
     println!(rt; "state:")?;
     let mut any = false;
+    // A station is asked by the number of a lane or a bag: it hands out no list of them.
     for i in 0..LANES {
         any |= lane(rt, lanes, i)?;
     }
@@ -66,25 +79,5 @@ pub fn state(rt: &impl Print, lanes: &Lanes, register: &Register) -> io::Result<
 }
 
 pub fn help(rt: &impl Print) -> io::Result<()> {
-    println!(rt;
-        "stationbench works the rig's station: 0 to 4 are the activities of Lanes, whose parameters are the"
-    )?;
-    println!(rt;
-        "tags 101 to 116, and 32 to 36 those of the Register, whose parameters are bag x 16 + stand."
-    )?;
-    println!(rt; "It reads lines from standard input:")?;
-    println!(rt;
-        "  perform NUMBER PARAMETER            performs an activity and prints its answer"
-    )?;
-    println!(rt;
-        "  take-back NUMBER PARAMETER ANSWER   takes back an activity that gave this answer"
-    )?;
-    println!(rt; "  conflict NUMBER NUMBER              says whether two activities conflict")?;
-    println!(rt;
-        "  kinds NUMBER                        says whether an activity is compensatable and retriable"
-    )?;
-    println!(rt;
-        "  state                               prints the lanes and bags that are not in their first state"
-    )?;
-    println!(rt; "Blank lines are passed over, and so is what follows a '#'.")
+    rt.print(HELP)
 }
