@@ -15,4 +15,4 @@ pub returns : goal.returns
 returns g c =
     let h = model g.S.Station.view c.args.self.now in
     let p = seen c.args.self.now.programs c.args.p in
-    (rw (c.in_default-waits.ensures.same refl) at c.undo.ensures) ∙ (c.in_default-waits.ensures.free refl _ ∙ ap (backward g.S.Station.meaning h p (with_nothing_left h p c.args.p.standing)) (returnable_is c.args.p.start c.args.self.now.log.items _ c.in-Some.ensures.value c.if-not-r.true))
+    (rw (c.in_default-waits.ensures.same refl) at c.undo.ensures) c.in-Some.r c.in-Some.ensures.item.1 ∙ (c.in_default-waits.ensures.free refl _ ∙ ap (backward g.S.Station.meaning h p (with_nothing_left h p c.args.p.standing)) (returnable_is c.args.p.start c.args.self.now.log.items _ c.in-Some.ensures.value c.if-not-r.true))
