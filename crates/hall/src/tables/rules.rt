@@ -125,9 +125,8 @@ impl<S: Station> Tables<S> {
         requires { IsOnly p self.old.processes.items }
         ensures { answered (model S.Station.view self.new) (Ok (Stepped result)) ≡ backward S.Station.meaning (model S.Station.view self.old) (seen self.old.programs p) (with_nothing_left (model S.Station.view self.old) (seen self.old.programs p) p.standing) (returnable p.start self.old.log.items) }
     {
-        let (k, r) = match self.last_record(p.start) {
-            Some((k, r)) if !r.pivot => (k, r),
-            _ => return self.turn(p),
+        let Some((k, r)) = self.last_record(p.start).filter(|(_, r)| !r.pivot) else {
+            return self.turn(p);
         };
         let deed = Deed::Back {
             activity: r.activity.number,
