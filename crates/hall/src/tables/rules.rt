@@ -13,6 +13,7 @@ use super::Tables;
 use crate::claim::{Claim, Deed};
 use crate::process::Process;
 use activity::Activity;
+use program::Cursor;
 use protocol::{Aim, Direction, Record, Standing, Turn};
 use station::Station;
 
@@ -155,8 +156,7 @@ impl<S: Station> Tables<S> {
     {
         match p.standing {
             Standing::Withdrawing(Aim::Restart) => {
-                let to = self.first(p.place);
-                self.relocate(p, Standing::Running, to);
+                self.relocate(p, Standing::Running, Cursor::start());
                 Turn::Restarted
             }
             Standing::Withdrawing(Aim::End) => {
