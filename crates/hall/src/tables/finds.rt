@@ -1,5 +1,5 @@
 // What the tables have where.
-ghost use Rattle.std.specs.Prelude.{◌≡◌, ◌==◌, ◌<◌, drop, IfSome, vec_len};
+ghost use Rattle.std.specs.Prelude.{◌≡◌, ◌==◌, ◌<◌, get_or, drop, IfSome, vec_len};
 ghost use Rattle.std.specs.List.{find as first};
 ghost use Rattle.std.specs.Option.{option_map};
 ghost use Rattle.protocol.specs.Log.{own, from_pivot, last_of};
@@ -23,7 +23,7 @@ impl<S: Station> Tables<S> {
     // The last record of that number, with its place.
     pub(super) fn last_record(&self, start: u16) -> Option<(usize, Record)>
         ensures value { split_of self.now.log.items result ≡ last_of start self.now.log.items }
-        ensures item { IfSome result (λ s. s.0 < vec_len self.now.log) }
+        ensures item { IfSome result (λ s. (s.0 < vec_len self.now.log) × (s.1 ≡ get_or self.now.log.items s.0 s.1)) }
     {
         let k = self.log.iter().rposition(|r| r.start == start)?;
         Some((k, self.log[k]))

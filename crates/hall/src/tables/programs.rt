@@ -1,10 +1,9 @@
-// The programs of the table: where a process begins, what it has next, and where that leads.
+// The programs of the table: what a process has next, and where that leads.
 ghost use Rattle.std.specs.Prelude.{◌≡◌, ◌+◌, ◌≤◌, None, slice_index_or};
 ghost use Rattle.std.specs.Option.{option_map};
 ghost use Rattle.program.specs.Positions.{onward, alternative_of, into};
 ghost use Rattle.protocol.specs.Ahead.{next};
-ghost use Rattle.protocol.specs.Hall.{beginning};
-ghost use Rattle.hall.specs.Model.{model, here, position_at, position_in, step_to};
+ghost use Rattle.hall.specs.Model.{here, position_at, step_to};
 
 use super::Tables;
 use crate::process::Process;
@@ -17,13 +16,6 @@ impl<S: Station> Tables<S> {
         ensures { option_map (λ x. x.now) result ≡ slice_index_or self.now.programs place None }
     {
         self.programs.get(usize::from(place))?.as_ref()
-    }
-
-    // Where a process of the place begins.
-    pub(super) fn first(&self, place: u8) -> Cursor
-        ensures { position_in (slice_index_or self.now.programs place None) result ≡ beginning (model S.Station.view self.now).programs place }
-    {
-        Cursor::start()
     }
 
     // The step that a process has next, if its program has one.

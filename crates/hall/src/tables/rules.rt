@@ -1,5 +1,5 @@
 // The rules of a step.
-ghost use Rattle.std.specs.Prelude.{◌≡◌, ◌+◌, ◌<◌, take, drop, IfSome, vec_len};
+ghost use Rattle.std.specs.Prelude.{◌≡◌, ◌+◌, ◌<◌, get_or, take, drop, IfSome, vec_len};
 ghost use Rattle.program.specs.Positions.{onward as led_on};
 ghost use Rattle.protocol.specs.declared.answer.Served.TheVariants.{Stepped};
 ghost use Rattle.protocol.specs.Ahead.{nothing, plain, crossing};
@@ -13,6 +13,7 @@ use super::Tables;
 use crate::claim::{Claim, Deed};
 use crate::process::Process;
 use activity::Activity;
+use program::Cursor;
 use protocol::{Aim, Direction, Record, Standing, Turn};
 use station::Station;
 
@@ -125,9 +126,8 @@ impl<S: Station> Tables<S> {
         requires { IsOnly p self.old.processes.items }
         ensures { answered (model S.Station.view self.new) (Ok (Stepped result)) ≡ backward S.Station.meaning (model S.Station.view self.old) (seen self.old.programs p) (with_nothing_left (model S.Station.view self.old) (seen self.old.programs p) p.standing) (returnable p.start self.old.log.items) }
     {
-        let (k, r) = match self.last_record(p.start) {
-            Some((k, r)) if !r.pivot => (k, r),
-            _ => return self.turn(p),
+        let Some((k, r)) = self.last_record(p.start).filter(|(_, r)| !r.pivot) else {
+            return self.turn(p);
         };
         let deed = Deed::Back {
             activity: r.activity.number,
@@ -136,16 +136,16 @@ impl<S: Station> Tables<S> {
         if let Some(turn) = self.waits(p, deed) {
             return turn;
         }
-        self.undo(k, r)
+        self.undo(k)
     }
 
-    // The record is taken back at the station, and removed.
-    fn undo(&mut self, k: usize, r: Record) -> Turn
+    // The record at a place is removed, and taken back at the station.
+    fn undo(&mut self, k: usize) -> Turn
         requires within { k < vec_len self.old.log }
-        ensures { answered (model S.Station.view self.new) (Ok (Stepped result)) ≡ undone S.Station.meaning (model S.Station.view self.old) (record { before = take k self.old.log.items; at = r; after = drop (k + 1) self.old.log.items }) }
+        ensures { (r : Record) → r ≡ get_or self.old.log.items k r → answered (model S.Station.view self.new) (Ok (Stepped result)) ≡ undone S.Station.meaning (model S.Station.view self.old) (record { before = take k self.old.log.items; at = r; after = drop (k + 1) self.old.log.items }) }
     {
+        let r = self.log.remove(k);
         self.station.take_back(r.activity, r.answer);
-        let _ = self.log.remove(k);
         Turn::Undone(r.activity.number)
     }
 
@@ -156,8 +156,7 @@ impl<S: Station> Tables<S> {
     {
         match p.standing {
             Standing::Withdrawing(Aim::Restart) => {
-                let to = self.first(p.place);
-                self.relocate(p, Standing::Running, to);
+                self.relocate(p, Standing::Running, Cursor::start());
                 Turn::Restarted
             }
             Standing::Withdrawing(Aim::End) => {

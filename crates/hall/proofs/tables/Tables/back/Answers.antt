@@ -1,6 +1,7 @@
-use Rattle.std.proofs.Common.{refl, ap, ◌∙◌}
+use Rattle.std.proofs.Common.{◌≡◌, ◌+◌, rules, get_or, take, drop, Some, sym, refl, ap, ◌∙◌}
+use Rattle.protocol.specs.Log.{returnable}
 use Rattle.protocol.specs.StepFunction.{backward}
-use Rattle.hall.specs.Model.{model, seen}
+use Rattle.hall.specs.Model.{model, seen, split_of}
 use Rattle.hall.specs.Rules.{with_nothing_left}
 use Rattle.hall.proofs.Claimed.{returnable_is}
 use Rattle.hall.proofs.tables.Tables.back.Goals as goal
@@ -9,10 +10,15 @@ pub returns-in-Some-waits : goal.returns-in-Some-waits
 returns-in-Some-waits g c =
     let h = model g.S.Station.view c.args.self.now in
     let p = seen c.args.self.now.programs c.args.p in
-    c.in-Some-waits.ensures.waits _ ∙ ap (backward g.S.Station.meaning h p (with_nothing_left h p c.args.p.standing)) (returnable_is c.args.p.start c.args.self.now.log.items _ c.in-Some.ensures.value c.if-not-r.true)
+    let rs = c.args.self.now.log.items in
+    let last : split_of rs c.filter.result ≡ returnable c.args.p.start rs = returnable_is _ rs _ _ (λ x b said. search rules) _ c.last_record.ensures.value c.filter.ensures in
+    c.in-Some-waits.ensures.waits _ ∙ ap (backward g.S.Station.meaning h p (with_nothing_left h p c.args.p.standing)) (ap (split_of rs) (sym c.in-Some.is) ∙ last)
 
 pub returns : goal.returns
 returns g c =
     let h = model g.S.Station.view c.args.self.now in
     let p = seen c.args.self.now.programs c.args.p in
-    (rw (c.in_default-waits.ensures.same refl) at c.undo.ensures) ∙ (c.in_default-waits.ensures.free refl _ ∙ ap (backward g.S.Station.meaning h p (with_nothing_left h p c.args.p.standing)) (returnable_is c.args.p.start c.args.self.now.log.items _ c.in-Some.ensures.value c.if-not-r.true))
+    let rs = c.args.self.now.log.items in
+    let last : split_of rs c.filter.result ≡ returnable c.args.p.start rs = returnable_is _ rs _ _ (λ x b said. search rules) _ c.last_record.ensures.value c.filter.ensures in
+    let at : c.in-Some.r ≡ get_or rs c.in-Some.k c.in-Some.r = search rules in
+    (rw (c.in_default-waits.ensures.same refl) at c.undo.ensures) c.in-Some.r at ∙ (c.in_default-waits.ensures.free refl _ ∙ ap (backward g.S.Station.meaning h p (with_nothing_left h p c.args.p.standing)) (ap (split_of rs) (sym c.in-Some.is) ∙ last))
