@@ -17,4 +17,4 @@ with_cell s i c = record { cells = slice_set s.cells i c; full = length-set s.ce
 
 -- the five activities and the catalogue of a row of N cells
 abbrev pub in_row : {C K : Type 0} → CellMeaning C K → (N : ℕ) → Meaning (Row C N)
-in_row m N = on_found m (λ s i. slice_get s.cells i) (λ s i c. with_cell s i c)
+in_row m N = on_found m (λ s i. slice_get s.cells i) with_cell

@@ -1,5 +1,5 @@
 -- A row of cells keeps the laws that its cells keep.
-use Rattle.std.specs.Prelude.{◌≡◌, ◌||◌, ℕ, ◌<◌, ◌≤◌, Bool, true, cond, List, length, Some, None, Option, nat_lt, slice_get, slice_index_or}
+use Rattle.std.specs.Prelude.{◌≡◌, ◌||◌, ℕ, ◌<◌, ◌≤◌, Bool, true, cond, List, length, Some, None, Option, slice_get, slice_index_or}
 use Rattle.std.proofs.Common.{sym, ap, ◌∙◌, subst, ⊎_elim, arith, get_or-set_same, get_or-set_other, set-set}
 use Rattle.std.specs.List.{AllByRecursion}
 use Rattle.std.proofs.Math.Nat.{ℕ_set}
@@ -29,7 +29,7 @@ module _ {C : Type 0} {N : ℕ} where
 
   -- the N cells of a row, where d is any cell
   abbrev of_row : C → Cells (Row C N) C
-  of_row d = record { count = N; get = λ w i. slice_index_or w.cells i d; put = λ w i c. with_cell w i c }
+  of_row d = record { count = N; get = λ w i. slice_index_or w.cells i d; put = with_cell }
 
   separate : (d : C) → Separate (of_row d)
   unfolding with_cell
@@ -70,7 +70,7 @@ module _ {C K : Type 0} (m : CellMeaning C K) (N : ℕ) where
   carried P = subst P (fun_ext (λ w. fun_ext (λ i. found m.first w i)))
 
   abbrev found_by : (Row C N → ℕ → Option C) → Meaning (Row C N)
-  found_by find = on_found m find (λ w i c. with_cell w i c)
+  found_by find = on_found m find with_cell
 
   pub restores : AllByRecursion (Named m (Undone m)) m.listing.compensatables → Restores (in_row m N)
   restores law = carried (λ find. Restores (found_by find)) (general.restores m cells (separate m.first) law)
