@@ -18,7 +18,7 @@ use std::num::TryFromIntError;
 // What a line asks for.
 #[derive(Clone, Copy, Debug, PartialEq, Eq)]
 pub enum Line {
-    // nothing: it is blank, or a comment
+    // nothing: it is blank, or a comment; a case, with no Option around: every line has one Line, and what it comes to is defined for all
     Blank,
     Perform(Activity),
     TakeBack(Activity, u32),
@@ -126,7 +126,7 @@ fn is_in_word(byte: u8) -> bool
     !is_blank(byte) && !matches!(byte, b'#' | b'\n')
 }
 
-// How many blanks stand at the front. This and `word_len` are not one function of a test: it would need a ghost test, picked at each call.
+// How many blanks stand at the front. This and `word_len` stay two: one function over the test would be told at each call, for the proof, what the test decides.
 fn blanks(bytes: &[u8]) -> usize
     ensures value { result ≡ prefix_len is_blank bytes.now }
     ensures bound { result ≤ length bytes.now }
@@ -162,7 +162,7 @@ fn decimal<N: Field>(word: &[u8]) -> Option<N>
 }
 
 impl<'a> Words<'a> {
-    // The next word. Where there is none, the reader then stands where the line ends.
+    // The next word. Where there is none, the words then stand where the line ends.
     #[tactic(auto, unfolding(crate::specs::Lines::begin, crate::specs::Lines::past_word, crate::specs::Lines::word_at))]
     fn word(&mut self) -> Option<Word<'a>>
         ensures text { self.new.text.now ≡ self.old.text.now }

@@ -69,10 +69,10 @@ fn take(waiting: Option<u8>, c: u8) -> Option<Taken>
 }
 
 // The bytes that a line stands for.
-pub fn decode(heap: Global, line: &[u8]) -> Result<Vec<u8>, Unreadable>
+pub fn decode(alloc: Global, line: &[u8]) -> Result<Vec<u8>, Unreadable>
     ensures { Decoded vec_items line.now result }
 {
-    let mut bytes = Vec::new(heap);
+    let mut bytes = Vec::new(alloc);
     let mut waiting = None;
     for (column, &c) in line.iter().enumerate() {
         match take(waiting, c).ok_or(Unreadable::At(column))? {
