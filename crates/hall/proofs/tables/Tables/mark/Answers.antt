@@ -15,9 +15,9 @@ loop-q-preserved g c =
     elim c.if-eq.branch [
       | then-eq+then-tells w ↦ rw w.q-items-is (mapped_more (marked there) _ _ _ c.loop-q.invariant c.q-item.result _ (omega arith) (omega arith) (set_back (there q) q (search rules) (sym (w.tells.ensures ∙ of_log) ∙ w.if-tells.true)))
       | else-eq w ↦ elim w.else-eq.branch [
-          | else-eq-via-then-eq+else-tells w' ↦ rw (w.q-items-is, w'.q-items-is) (mapped_more (marked there) _ _ _ c.loop-q.invariant c.q-item.result _ (omega arith) (omega arith) (not_told (there q) q (sym (w'.tells.ensures ∙ of_log) ∙ w'.if-tells.false)))
-          | else-eq-via-else-eq w' ↦ rw (w.q-items-is, w'.q-items-is) (mapped_more (marked there) _ _ _ c.loop-q.invariant c.q-item.result _ (omega arith) (omega arith) (not_running (there q) q (search rules)))
-        ]
+        | else-eq-via-then-eq+else-tells w' ↦ rw (w.q-items-is, w'.q-items-is) (mapped_more (marked there) _ _ _ c.loop-q.invariant c.q-item.result _ (omega arith) (omega arith) (not_told (there q) q (sym (w'.tells.ensures ∙ of_log) ∙ w'.if-tells.false)))
+        | else-eq-via-else-eq w' ↦ rw (w.q-items-is, w'.q-items-is) (mapped_more (marked there) _ _ _ c.loop-q.invariant c.q-item.result _ (omega arith) (omega arith) (not_running (there q) q (search rules)))
+      ]
     ]
 
 pub returns : goal.returns
