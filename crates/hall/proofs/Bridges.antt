@@ -1,15 +1,16 @@
 -- From loops over the tables to the rules' own words.
-use Rattle.std.proofs.Common.{◌≡◌, ℕ, min, Bool, true, false, cond, ◌&&◌, List, [], ◌∷◌, map, Some, None, Option, refl, ap, ◌∙◌, arith}
+use Rattle.std.proofs.Common.{◌≡◌, ℕ, min, Bool, true, false, cond, ◌&&◌, List, [], ◌∷◌, map, Some, None, Option, sym, refl, ap, ◌∙◌, arith}
 use Rattle.std.specs.List.{filter, fold, reduce}
 use Rattle.protocol.specs.declared.standing.Aim.TheVariants.{Restart}
-use Rattle.protocol.specs.declared.standing.Standing.TheVariants.{Withdrawing}
+use Rattle.protocol.specs.declared.standing.Standing.{Standing}
+use Rattle.protocol.specs.declared.standing.Standing.TheVariants.{Running, Withdrawing, PastPivot}
 use Rattle.protocol.specs.Hall as protocol
 use Rattle.protocol.specs.Hall.{least, lower, running, stand}
 use Rattle.protocol.specs.StepFunction as rules
 use Rattle.protocol.proofs.Places.{least_from, least_by_loop}
 use Rattle.program.specs.declared.program.Program.{Program}
 use Rattle.hall.specs.declared.process.Process.{Process}
-use Rattle.hall.specs.Claims.{marked}
+use Rattle.hall.specs.Claims.{withdrawn, marked}
 use Rattle.hall.specs.Model.{seen, all_seen}
 
 -- the least blocker, as a search for the least of the numbers finds it
@@ -46,3 +47,20 @@ marked_is ps f g e (q ∷ qs) = λ j. one (f q) (g (seen ps q)) (e q) (running q
 
     one : (a b : Bool) → a ≡ b → (v : Bool) → seen ps (cond (a && v) record { start = q.start; place = q.place; standing = Withdrawing Restart; cursor = q.cursor } q) ≡ cond (b && v) (stand (Withdrawing Restart) (seen ps q)) (seen ps q)
     one a b same v = cell (a && v) ∙ ap (λ x. cond (x && v) (stand (Withdrawing Restart) (seen ps q)) (seen ps q)) same
+
+-- what a turn of the marking leaves of a process: set to withdraw where it runs and is told to, else as it was
+module _ (told : Bool) (q : Process) where
+  pub set_back : q.standing ≡ Running → told ≡ true → record q { standing = Withdrawing Restart } ≡ withdrawn told q
+  set_back runs t = ap (λ v. cond v (record q { standing = Withdrawing Restart }) q) (sym (ap (λ b. b && running q.standing) t ∙ ap running runs))
+
+  pub not_told : told ≡ false → q ≡ withdrawn told q
+  not_told t = ap (λ b. withdrawn b q) (sym t)
+
+  pub not_running : (q.standing ≡ Running → ⊥) → q ≡ withdrawn told q
+  not_running r = go told q.standing refl
+    where
+      go : (b : Bool) (s : Standing) → q.standing ≡ s → q ≡ cond (b && running s) (record q { standing = Withdrawing Restart }) q
+      go false s e = refl
+      go true Running e = absurd (r e)
+      go true (Withdrawing a) e = refl
+      go true (PastPivot d) e = refl

@@ -1,5 +1,7 @@
 -- Parts of the rules of a step, as the code takes them apart.
-use Rattle.std.specs.Prelude.{true}
+use Rattle.std.specs.Prelude.{Bool, true, false}
+use Rattle.program.specs.declared.command.Kind.{Kind}
+use Rattle.program.specs.declared.command.Kind.TheVariants.{Compensatable, Pivot, Retriable}
 use Rattle.protocol.specs.declared.standing.Aim.TheVariants.{Restart, End}
 use Rattle.protocol.specs.declared.standing.Standing.{Standing}
 use Rattle.protocol.specs.declared.standing.Standing.TheVariants.{Running, Withdrawing, PastPivot}
@@ -10,6 +12,12 @@ use Rattle.protocol.specs.Hall.{Process, Hall, Outcome}
 use Rattle.protocol.specs.StepFunction.{restarted, gone, next_alternative, unless_blocked, blocks_pivot, pivot_marks, performed}
 use Rattle.hall.specs.declared.claim.Claim.{Claim}
 use Rattle.hall.specs.Claims.{blocker, marks_it}
+
+-- whether a step of the kind is a pivot
+abbrev pub is_pivot : Kind → Bool
+is_pivot Compensatable = false
+is_pivot Pivot = true
+is_pivot Retriable = false
 
 -- what a process with nothing to take back comes to
 abbrev pub with_nothing_left : {S : Type 0} → Hall S → Process → Standing → Outcome S

@@ -2,28 +2,14 @@
 ghost use Rattle.std.specs.Prelude.{◌≡◌, ◌&&◌, map};
 ghost use Rattle.protocol.specs.Hall.{least, with_processes};
 ghost use Rattle.protocol.specs.StepFunction as rules;
-ghost use Rattle.hall.specs.Claims.{blocker, marks_it, withdrawn};
+ghost use Rattle.hall.specs.Claims.{blocker, marks_it};
 ghost use Rattle.hall.specs.Model.{model};
 
 use super::Tables;
 use crate::claim::Claim;
 use crate::log::Log;
-use crate::process::Process;
 use protocol::{Aim, Standing};
 use station::Station;
-
-// The process, set to withdraw where it is told to and runs.
-fn set_back(tell: bool, q: Process) -> Process
-    ensures { result ≡ withdrawn tell q }
-{
-    match q.standing {
-        Standing::Running if tell => Process {
-            standing: Standing::Withdrawing(Aim::Restart),
-            ..q
-        },
-        _ => q,
-    }
-}
 
 impl<S: Station> Tables<S> {
     // The smallest start number of those that block the claim.
@@ -50,7 +36,9 @@ impl<S: Station> Tables<S> {
             records: self.log.as_slice(),
         };
         for q in self.processes.iter_mut() {
-            *q = set_back(c.tells(&log, *q), *q);
+            if q.standing == Standing::Running && c.tells(&log, *q) {
+                q.standing = Standing::Withdrawing(Aim::Restart);
+            }
         }
     }
 }

@@ -1,5 +1,5 @@
 // The rules of a step.
-ghost use Rattle.std.specs.Prelude.{◌≡◌, ◌+◌, ◌<◌, get_or, take, drop, IfSome, vec_len};
+ghost use Rattle.std.specs.Prelude.{◌≡◌, ◌+◌, ◌<◌, false, get_or, take, drop, IfSome, vec_len};
 ghost use Rattle.program.specs.Positions.{onward as led_on};
 ghost use Rattle.protocol.specs.declared.answer.Served.TheVariants.{Stepped};
 ghost use Rattle.protocol.specs.Ahead.{nothing, plain, crossing};
@@ -7,13 +7,13 @@ ghost use Rattle.protocol.specs.Log.{returnable};
 ghost use Rattle.protocol.specs.Hall.{answered, failed, standing_after, Outcome};
 ghost use Rattle.protocol.specs.StepFunction.{performed, undone, committing, backward, forward};
 ghost use Rattle.hall.specs.Model.{model, seen, here, IsOnly};
-ghost use Rattle.hall.specs.Rules.{with_nothing_left, pivot_unless_met, claimed};
+ghost use Rattle.hall.specs.Rules.{is_pivot, with_nothing_left, pivot_unless_met, claimed};
 
 use super::Tables;
 use crate::claim::{Claim, Deed};
 use crate::process::Process;
 use activity::Activity;
-use program::Cursor;
+use program::{Cursor, Kind};
 use protocol::{Aim, Direction, Record, Standing, Turn};
 use station::Station;
 
@@ -28,23 +28,22 @@ fn after_failure(s: Standing) -> Standing
 }
 
 // The standing after a step.
-fn after_step(pivot: bool, s: Standing) -> Standing
-    ensures { result ≡ standing_after pivot s }
+fn after_step(kind: Kind, s: Standing) -> Standing
+    ensures { result ≡ standing_after (is_pivot kind) s }
 {
-    if pivot {
-        Standing::PastPivot(Direction::Forward)
-    } else {
-        s
+    match kind {
+        Kind::Pivot => Standing::PastPivot(Direction::Forward),
+        Kind::Compensatable | Kind::Retriable => s,
     }
 }
 
 // `only` and `room` are clauses, and no fields of the tables: they speak of one process and what it has next, not of every table.
 impl<S: Station> Tables<S> {
     // The step is performed and recorded, or fails.
-    fn perform(&mut self, p: Process, pivot: bool, activity: Activity) -> Turn
+    fn perform(&mut self, p: Process, kind: Kind, activity: Activity) -> Turn
         requires only { IsOnly p self.old.processes.items }
         requires room { vec_len self.old.log < 1024 }
-        ensures { answered (model S.Station.view self.new) (Ok (Stepped result)) ≡ performed (model S.Station.view self.old) (seen self.old.programs p) pivot activity (led_on (here self.old.programs p)) (S.Station.meaning.performed (S.Station.view self.old.station) activity) }
+        ensures { answered (model S.Station.view self.new) (Ok (Stepped result)) ≡ performed (model S.Station.view self.old) (seen self.old.programs p) (is_pivot kind) activity (led_on (here self.old.programs p)) (S.Station.meaning.performed (S.Station.view self.old.station) activity) }
     {
         let to = self.onward(p);
         match self.station.perform(activity) {
@@ -54,9 +53,9 @@ impl<S: Station> Tables<S> {
                     activity,
                     answer,
                     commit: 0,
-                    pivot,
+                    pivot: kind == Kind::Pivot,
                 });
-                self.relocate(p, after_step(pivot, p.standing), to);
+                self.relocate(p, after_step(kind, p.standing), to);
                 Turn::Done(answer)
             }
             None => {
@@ -79,7 +78,8 @@ impl<S: Station> Tables<S> {
     }
 
     // A step that is no pivot is next.
-    pub(super) fn go(&mut self, p: Process, activity: Activity) -> Turn
+    pub(super) fn go(&mut self, p: Process, kind: Kind, activity: Activity) -> Turn
+        requires no_pivot { is_pivot kind ≡ false }
         requires only { IsOnly p self.old.processes.items }
         requires room { vec_len self.old.log < 1024 }
         ensures { answered (model S.Station.view self.new) (Ok (Stepped result)) ≡ forward S.Station.meaning (model S.Station.view self.old) (seen self.old.programs p) (plain activity (led_on (here self.old.programs p))) }
@@ -90,7 +90,7 @@ impl<S: Station> Tables<S> {
         if let Some(turn) = self.waits(p, deed) {
             return turn;
         }
-        self.perform(p, false, activity)
+        self.perform(p, kind, activity)
     }
 
     // A pivot, once no other process past its pivot blocks it: those whose records it meets do.
@@ -106,7 +106,7 @@ impl<S: Station> Tables<S> {
         if let Some(turn) = self.waits(p, deed) {
             return turn;
         }
-        self.perform(p, true, activity)
+        self.perform(p, Kind::Pivot, activity)
     }
 
     // A pivot is next: of a running process, it waits first for another past its pivot, which nobody is marked for.

@@ -21,9 +21,7 @@ impl<S: Station> Tables<S> {
         let p = self.process(start).ok_or(Refusal::NoProcess)?;
         // one match on the standing together with what is next: the rules ask for it
         Ok(match (p.standing, self.next_step(p)) {
-            (Standing::Withdrawing(_), _) | (Standing::PastPivot(Direction::Back), _) => self.back(
-                p,
-            ),
+            (Standing::Withdrawing(_) | Standing::PastPivot(Direction::Back), _) => self.back(p),
             (_, None) => self.commit(p),
             (
                 _,
@@ -34,15 +32,7 @@ impl<S: Station> Tables<S> {
                     },
                 ),
             ) => self.pivot(p, activity),
-            (
-                _,
-                Some(
-                    Step {
-                        kind: Kind::Compensatable | Kind::Retriable,
-                        activity,
-                    },
-                ),
-            ) => self.go(p, activity),
+            (_, Some(Step { kind, activity })) => self.go(p, kind, activity),
         })
     }
 

@@ -1,16 +1,24 @@
-use Rattle.std.proofs.Common.{◌&&◌, get_or, refl, ap, ◌∙◌, arith}
+use Rattle.std.proofs.Common.{◌&&◌, get_or, rules, sym, refl, ap, ◌∙◌, arith}
 use Rattle.protocol.specs.Hall.{with_processes}
-use Rattle.hall.specs.Claims.{told, marked, withdrawn, blocker, marks_it}
+use Rattle.hall.specs.Claims.{told, marked, blocker, marks_it}
 use Rattle.hall.specs.Model.{model, all_seen}
 use Rattle.hall.proofs.Maps.{mapped_more, all_mapped}
-use Rattle.hall.proofs.Bridges.{marked_is}
+use Rattle.hall.proofs.Bridges.{marked_is, set_back, not_told, not_running}
 use Rattle.hall.proofs.tables.Tables.mark.Goals as goal
+use Rattle.hall.proofs.tables.Tables.mark.Goals.{then-eq+then-tells, else-eq, else-eq-via-then-eq+else-tells, else-eq-via-else-eq}
 
 pub loop-q-preserved : goal.loop-q-preserved
 loop-q-preserved g c =
     let there = told g.S.Station.meaning.conflict c.args.self.now.log.items c.args.c in
     let q = get_or c.loop-q.q-items c.loop-q.q-index c.q-item.result in
-    mapped_more (marked there) _ _ _ c.loop-q.invariant c.q-item.result _ (omega arith) (omega arith) (c.set_back.ensures ∙ ap (λ b. withdrawn b q) (c.tells.ensures ∙ ap (λ l. told g.S.Station.meaning.conflict l c.args.c q) c.as_slice.ensures.value))
+    let of_log = ap (λ l. told g.S.Station.meaning.conflict l c.args.c q) c.as_slice.ensures.value in
+    elim c.if-eq.branch [
+      | then-eq+then-tells w ↦ rw w.q-items-is (mapped_more (marked there) _ _ _ c.loop-q.invariant c.q-item.result _ (omega arith) (omega arith) (set_back (there q) q (search rules) (sym (w.tells.ensures ∙ of_log) ∙ w.if-tells.true)))
+      | else-eq w ↦ elim w.else-eq.branch [
+        | else-eq-via-then-eq+else-tells w' ↦ rw (w.q-items-is, w'.q-items-is) (mapped_more (marked there) _ _ _ c.loop-q.invariant c.q-item.result _ (omega arith) (omega arith) (not_told (there q) q (sym (w'.tells.ensures ∙ of_log) ∙ w'.if-tells.false)))
+        | else-eq-via-else-eq w' ↦ rw (w.q-items-is, w'.q-items-is) (mapped_more (marked there) _ _ _ c.loop-q.invariant c.q-item.result _ (omega arith) (omega arith) (not_running (there q) q (search rules)))
+      ]
+    ]
 
 pub returns : goal.returns
 returns g c =

@@ -16,6 +16,7 @@ go-requires g c =
     let p = c.in_ok-p.p in
     let found = sym c.in_ok-p.ensures.ok_part ∙ c.process.ensures.there in
     record {
+      no_pivot = search rules;
       only = only_found g.S.Station.view h c.requires c.args.start p found;
       room = room_found g.S.Station.view h c.requires c.args.start p found c.next_step.result (onward (here h.programs p)) (search rules) c.next_step.ensures;
     }
