@@ -8,3 +8,4 @@ mod sign;
 
 pub use decoding::{Unreadable, decode};
 pub use encoding::encode;
+pub use sign::is_command;

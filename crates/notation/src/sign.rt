@@ -25,7 +25,7 @@ pub(crate) fn sign_of(c: u8) -> Option<Sign>
 }
 
 // Whether a byte is a command's letter or mark.
-pub(crate) fn is_command(c: u8) -> bool
+pub fn is_command(c: u8) -> bool
     ensures { result ≡ is_command c }
 {
     matches!(c, b'C' | b'P' | b'R' | b'[' | b'|' | b']' | b'.')

@@ -1,6 +1,6 @@
 // One line: from the notation to bytes, from bytes to a program, and what to say of it.
 use crate::tree;
-use notation::{Unreadable, decode, encode};
+use notation::{Unreadable, decode, encode, is_command};
 use program::{Fault, Refusal, read};
 use std::alloc::{AllocError, Global};
 use std::io;
@@ -72,8 +72,7 @@ fn show_place(rt: &impl Print, text: &str, column: usize) -> io::Result<()> {
 fn meaning(refusal: Refusal, bytes: &[u8]) -> &'static str {
     match (refusal.fault, bytes.get(refusal.place)) {
         (Fault::TooLong, _) => "the text is over 255 bytes",
-        (Fault::Misplaced, Some(b'C' | b'P' | b'R' | b'[' | b'|' | b']' | b'.')) =>
-            "this command cannot stand here",
+        (Fault::Misplaced, Some(byte)) if is_command(*byte) => "this command cannot stand here",
         (Fault::Misplaced, _) => "this byte is no command",
         (Fault::CutOff, None) => "the text ends before its full stop",
         (Fault::CutOff, _) => "the operands of this step are cut off",
