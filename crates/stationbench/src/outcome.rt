@@ -3,7 +3,7 @@ use std::fmt;
 
 #[derive(Clone, Copy, Debug, PartialEq, Eq)]
 pub enum Outcome {
-    // Nothing and State are cases here, with no Option around: every line has one outcome, and its words are stated for all.
+    // this and the state are cases, with no Option around: every line has one outcome, and what it comes to is defined for all
     Nothing,
     State,
     // the answer, or none where it was not possible

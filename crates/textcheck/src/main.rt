@@ -12,9 +12,7 @@ use std::rt::Env;
 
 // Reads to the end of the input. A line need not be UTF-8, and the last one need not end in a line feed.
 fn run(rt: &(impl Env + Print + AllocGlobal), input: impl Read + Drop) -> anyhow::Result<()> {
-    let mut args = env::args(rt)?;
-    let _program = args.next();
-    if let Some(word) = args.next() {
+    if let Some(word) = env::args(rt)?.nth(1) {
         if word.as_str() != "--help" {
             println!(rt; "textcheck takes no argument but --help, and this is not it: {word}")?;
         }
