@@ -1,4 +1,4 @@
-use Rattle.std.proofs.Common.{◌≡◌, ◌+◌, rules, get_or, take, drop, Some, sym, refl, ap, ◌∙◌}
+use Rattle.std.proofs.Common.{◌≡◌, rules, get_or, sym, refl, ap, ◌∙◌}
 use Rattle.protocol.specs.Log.{returnable}
 use Rattle.protocol.specs.StepFunction.{backward}
 use Rattle.hall.specs.Model.{model, seen, split_of}
