@@ -36,17 +36,17 @@ marks_for p (Pivot a from) n = past_pivot p.standing || nat_lt p.start n
 marks_for p Alone n = false
 marks_for p Commit n = false
 
-abbrev pub marks : Claim → ℕ → Bool
-marks c n = marks_for c.process c.deed n
+abbrev pub may_mark : Claim → ℕ → Bool
+may_mark c n = marks_for c.process c.deed n
 
 abbrev pub blocker : (ℕ → ℕ → Bool) → List Record → Claim → protocol.Process → Bool
 blocker conflict log c q = blocks conflict log c q.start q.standing
 
 abbrev pub marks_it : Claim → protocol.Process → Bool
-marks_it c q = marks c q.start
+marks_it c q = may_mark c q.start
 
 abbrev pub told : (ℕ → ℕ → Bool) → List Record → Claim → Process → Bool
-told conflict log c q = blocks conflict log c q.start q.standing && marks c q.start
+told conflict log c q = blocks conflict log c q.start q.standing && may_mark c q.start
 
 -- a process of the table set to withdraw, to restart
 abbrev pub withdrawn : Bool → Process → Process

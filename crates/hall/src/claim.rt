@@ -1,7 +1,7 @@
 // What a process is about to do, who blocks it, and who is marked.
 ghost use Rattle.std.specs.Prelude.{◌≡◌, ◌||◌, nat_lt};
 ghost use Rattle.protocol.specs.Hall.{past_pivot, retreating};
-ghost use Rattle.hall.specs.Claims.{stops, blocks, marks, told};
+ghost use Rattle.hall.specs.Claims.{stops, blocks, may_mark, told};
 
 use crate::log::Log;
 use crate::process::Process;
@@ -73,15 +73,15 @@ impl Claim {
     }
 
     // Whether a process blocks the claim.
-    pub fn is_blocked<S: Station>(self, log: &Log<S>, q: Process) -> bool
+    pub fn is_blocked_by<S: Station>(self, log: &Log<S>, q: Process) -> bool
         ensures { result ≡ blocks S.Station.meaning.conflict log.now.records.now self q.start q.standing }
     {
         q.start != self.process.start && self.is_stopped(log, q)
     }
 
     // Whether the claim marks a process of that number, if it blocks.
-    fn marks(self, n: u16) -> bool
-        ensures { result ≡ marks self n }
+    fn may_mark(self, n: u16) -> bool
+        ensures { result ≡ may_mark self n }
     {
         match self.deed {
             Deed::Back { .. } | Deed::Plain { .. } => true,
@@ -91,9 +91,9 @@ impl Claim {
     }
 
     // Whether the claim marks a process.
-    pub fn tells<S: Station>(self, log: &Log<S>, q: Process) -> bool
+    pub fn marks<S: Station>(self, log: &Log<S>, q: Process) -> bool
         ensures { result ≡ told S.Station.meaning.conflict log.now.records.now self q }
     {
-        self.is_blocked(log, q) && self.marks(q.start)
+        self.is_blocked_by(log, q) && self.may_mark(q.start)
     }
 }

@@ -1,5 +1,5 @@
 // Questions to the log that the rules ask.
-ghost use Rattle.std.specs.Prelude.{◌≡◌, ◌+◌, ◌<◌, ◌&&◌, length, drop};
+ghost use Rattle.std.specs.Prelude.{◌≡◌, ◌+◌, ◌<◌, ◌&&◌, length, get_or, drop};
 ghost use Rattle.protocol.specs.Log.{owned, own};
 ghost use Rattle.protocol.specs.StepFunction.{holds_conflict, holds_any_conflict, stands_before_conflict};
 ghost use Rattle.hall.specs.Claims.{leads};
@@ -54,11 +54,12 @@ impl<'a, S: Station> Log<'a, S> {
         false
     }
 
-    // Whether the record is the process n's, and the process m has a later one in conflict.
-    fn leads(&self, i: usize, r: Record, n: u16, m: u16) -> bool
+    // Whether the record at a place is the process n's, and the process m has a later one in conflict.
+    fn leads(&self, i: usize, n: u16, m: u16) -> bool
         requires { i < length self.now.records.now }
-        ensures { result ≡ leads S.Station.meaning.conflict n m r (drop (i + 1) self.now.records.now) }
+        ensures { (r : Record) → r ≡ get_or self.now.records.now i r → result ≡ leads S.Station.meaning.conflict n m r (drop (i + 1) self.now.records.now) }
     {
+        let r = self.records[i];
         r.start == n && self.holds_conflict(i + 1, m, r.activity.number)
     }
 
@@ -67,7 +68,7 @@ impl<'a, S: Station> Log<'a, S> {
         ensures { result ≡ stands_before_conflict S.Station.meaning.conflict n m self.now.records.now }
     {
         for i in 0..self.records.len() {
-            if self.leads(i, self.records[i], n, m) {
+            if self.leads(i, n, m) {
                 return true;
             }
         }

@@ -20,6 +20,10 @@ pub struct Tables<S> {
     programs: [Option<Program>; 8],
     given: u16,
     committed: u32,
-    // the tables never grow past what was reserved when the hall was made
-    ghost roomy: { (1024 ≤ vec_capacity log) × (16 ≤ vec_capacity processes) × (length programs ≡ 8) },
+    // the log never grows past what was reserved when the hall was made
+    ghost room_for_records: { 1024 ≤ vec_capacity log },
+    // nor do the processes
+    ghost room_for_processes: { 16 ≤ vec_capacity processes },
+    // there are as many places for programs as the array has
+    ghost eight_places: { length programs ≡ 8 },
 }

@@ -22,7 +22,7 @@ impl<S: Station> Tables<S> {
         };
         self.processes
             .iter()
-            .filter(|q| c.is_blocked(&log, **q))
+            .filter(|q| c.is_blocked_by(&log, **q))
             .map(|q| q.start)
             .min()
     }
@@ -36,7 +36,7 @@ impl<S: Station> Tables<S> {
             records: self.log.as_slice(),
         };
         for q in self.processes.iter_mut() {
-            if q.standing == Standing::Running && c.tells(&log, *q) {
+            if q.standing == Standing::Running && c.marks(&log, *q) {
                 q.standing = Standing::Withdrawing(Aim::Restart);
             }
         }

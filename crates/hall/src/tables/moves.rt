@@ -21,6 +21,7 @@ impl<S: Station> Tables<S> {
             cursor: to,
             ..p
         };
+        // a loop that writes each match, though there is one: after an adapter of iter_mut nothing is known of the rest
         for q in self.processes.iter_mut() {
             if q.start == p.start {
                 *q = moved;

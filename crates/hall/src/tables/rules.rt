@@ -66,7 +66,7 @@ impl<S: Station> Tables<S> {
     }
 
     // The turn of a process that waits: those that block what it is about to do are marked.
-    fn waits(&mut self, process: Process, deed: Deed) -> Option<Turn>
+    fn wait_for(&mut self, process: Process, deed: Deed) -> Option<Turn>
         ensures waits { IfSome result (λ turn. (on : Outcome S.Station.State) → answered (model S.Station.view self.new) (Ok (Stepped turn)) ≡ claimed S.Station.meaning (model S.Station.view self.old) (record { process = process; deed = deed }) on) }
         ensures free { result ≡ None → (on : Outcome S.Station.State) → on ≡ claimed S.Station.meaning (model S.Station.view self.old) (record { process = process; deed = deed }) on }
         ensures same { result ≡ None → self.new ≡ self.old }
@@ -87,13 +87,13 @@ impl<S: Station> Tables<S> {
         let deed = Deed::Plain {
             activity: activity.number,
         };
-        if let Some(turn) = self.waits(p, deed) {
+        if let Some(turn) = self.wait_for(p, deed) {
             return turn;
         }
         self.perform(p, kind, activity)
     }
 
-    // A pivot, once no other process past its pivot blocks it: those whose records it meets do.
+    // A pivot that no other process past its pivot holds up. It waits for those with records in conflict with it, or with the records of its process after its last pivot.
     fn cross(&mut self, p: Process, activity: Activity) -> Turn
         requires only { IsOnly p self.old.processes.items }
         requires room { vec_len self.old.log < 1024 }
@@ -103,7 +103,7 @@ impl<S: Station> Tables<S> {
             activity: activity.number,
             from: self.after_pivot(p.start),
         };
-        if let Some(turn) = self.waits(p, deed) {
+        if let Some(turn) = self.wait_for(p, deed) {
             return turn;
         }
         self.perform(p, Kind::Pivot, activity)
@@ -115,7 +115,7 @@ impl<S: Station> Tables<S> {
         requires room { vec_len self.old.log < 1024 }
         ensures { answered (model S.Station.view self.new) (Ok (Stepped result)) ≡ forward S.Station.meaning (model S.Station.view self.old) (seen self.old.programs p) (crossing activity (led_on (here self.old.programs p))) }
     {
-        if let Some(turn) = self.waits(p, Deed::Alone) {
+        if let Some(turn) = self.wait_for(p, Deed::Alone) {
             return turn;
         }
         self.cross(p, activity)
@@ -127,13 +127,13 @@ impl<S: Station> Tables<S> {
         ensures { answered (model S.Station.view self.new) (Ok (Stepped result)) ≡ backward S.Station.meaning (model S.Station.view self.old) (seen self.old.programs p) (with_nothing_left (model S.Station.view self.old) (seen self.old.programs p) p.standing) (returnable p.start self.old.log.items) }
     {
         let Some((k, r)) = self.last_record(p.start).filter(|(_, r)| !r.pivot) else {
-            return self.turn(p);
+            return self.with_nothing_left(p);
         };
         let deed = Deed::Back {
             activity: r.activity.number,
             from: k + 1,
         };
-        if let Some(turn) = self.waits(p, deed) {
+        if let Some(turn) = self.wait_for(p, deed) {
             return turn;
         }
         self.undo(k)
@@ -150,7 +150,7 @@ impl<S: Station> Tables<S> {
     }
 
     // Nothing is left to take back.
-    fn turn(&mut self, p: Process) -> Turn
+    fn with_nothing_left(&mut self, p: Process) -> Turn
         requires { IsOnly p self.old.processes.items }
         ensures { answered (model S.Station.view self.new) (Ok (Stepped result)) ≡ with_nothing_left (model S.Station.view self.old) (seen self.old.programs p) p.standing }
     {
@@ -177,7 +177,7 @@ impl<S: Station> Tables<S> {
         requires { self.old.committed < 65536 }
         ensures { answered (model S.Station.view self.new) (Ok (Stepped result)) ≡ forward S.Station.meaning (model S.Station.view self.old) (seen self.old.programs p) nothing }
     {
-        if let Some(turn) = self.waits(p, Deed::Commit) {
+        if let Some(turn) = self.wait_for(p, Deed::Commit) {
             return turn;
         }
         self.conclude(p)

@@ -5,7 +5,7 @@ use Rattle.hall.specs.Model.{model, all_seen}
 use Rattle.hall.proofs.Maps.{mapped_more, all_mapped}
 use Rattle.hall.proofs.Bridges.{marked_is, set_back, not_told, not_running}
 use Rattle.hall.proofs.tables.Tables.mark.Goals as goal
-use Rattle.hall.proofs.tables.Tables.mark.Goals.{then-eq+then-tells, else-eq, else-eq-via-then-eq+else-tells, else-eq-via-else-eq}
+use Rattle.hall.proofs.tables.Tables.mark.Goals.{then-eq+then-marks, else-eq, else-eq-via-then-eq+else-marks, else-eq-via-else-eq}
 
 pub loop-q-preserved : goal.loop-q-preserved
 loop-q-preserved g c =
@@ -13,9 +13,9 @@ loop-q-preserved g c =
     let q = get_or c.loop-q.q-items c.loop-q.q-index c.q-item.result in
     let of_log = ap (λ l. told g.S.Station.meaning.conflict l c.args.c q) c.as_slice.ensures.value in
     elim c.if-eq.branch [
-      | then-eq+then-tells w ↦ rw w.q-items-is (mapped_more (marked there) _ _ _ c.loop-q.invariant c.q-item.result _ (omega arith) (omega arith) (set_back (there q) q (search rules) (sym (w.tells.ensures ∙ of_log) ∙ w.if-tells.true)))
+      | then-eq+then-marks w ↦ rw w.q-items-is (mapped_more (marked there) _ _ _ c.loop-q.invariant c.q-item.result _ (omega arith) (omega arith) (set_back (there q) q (search rules) (sym (w.marks.ensures ∙ of_log) ∙ w.if-marks.true)))
       | else-eq w ↦ elim w.else-eq.branch [
-        | else-eq-via-then-eq+else-tells w' ↦ rw (w.q-items-is, w'.q-items-is) (mapped_more (marked there) _ _ _ c.loop-q.invariant c.q-item.result _ (omega arith) (omega arith) (not_told (there q) q (sym (w'.tells.ensures ∙ of_log) ∙ w'.if-tells.false)))
+        | else-eq-via-then-eq+else-marks w' ↦ rw (w.q-items-is, w'.q-items-is) (mapped_more (marked there) _ _ _ c.loop-q.invariant c.q-item.result _ (omega arith) (omega arith) (not_told (there q) q (sym (w'.marks.ensures ∙ of_log) ∙ w'.if-marks.false)))
         | else-eq-via-else-eq w' ↦ rw (w.q-items-is, w'.q-items-is) (mapped_more (marked there) _ _ _ c.loop-q.invariant c.q-item.result _ (omega arith) (omega arith) (not_running (there q) q (search rules)))
       ]
     ]

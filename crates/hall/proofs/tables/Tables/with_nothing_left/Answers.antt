@@ -7,7 +7,7 @@ use Rattle.protocol.specs.Hall.{answered, changed, move, with_processes}
 use Rattle.hall.specs.Model.{model, seen}
 use Rattle.hall.specs.Rules.{with_nothing_left}
 use Rattle.hall.proofs.Entries.{first_is}
-use Rattle.hall.proofs.tables.Tables.turn.Goals as goal
+use Rattle.hall.proofs.tables.Tables.with_nothing_left.Goals as goal
 
 pub returns-in-Withdrawing-Restart : goal.returns-in-Withdrawing-Restart
 returns-in-Withdrawing-Restart g c =
