@@ -80,10 +80,6 @@ abbrev pub placed : List Command → ℕ → Option ℕ → ℕ → Position
 placed cs at None k = outer (body_at (drop at cs))
 placed cs at (Some from) k = inner (choices_at (drop from cs)) k (rest_at (drop at cs))
 
--- the tree of a program, and the position of a cursor in it
-abbrev pub tree : Program → Body
-tree p = body_at (program_commands p)
-
 -- the index at which a cursor's choices begin, if it stands in any, and the alternative taken among them; before any pivot, 0
 abbrev pub begun : Option Taken → Option ℕ
 begun None = None
@@ -92,6 +88,10 @@ begun (Some c) = Some c.from
 abbrev pub taken : Option Taken → ℕ
 taken None = 0
 taken (Some c) = c.alternative
+
+-- the tree of a program, and the position of a cursor in it
+abbrev pub tree : Program → Body
+tree p = body_at (program_commands p)
 
 abbrev pub position : Program → Cursor → Position
 position p c = placed (program_commands p) c.at (begun c.choices) (taken c.choices)

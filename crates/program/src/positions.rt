@@ -130,7 +130,7 @@ impl Program {
         let commands = self.commands();
         let mut rest = &commands[from.min(commands.len())..];
         let mut alternative = 0;
-        // It counts: the ordinal is what is asked for, and no index; past the last alternative it is less than k.
+        // It counts: the ordinal is the answer, and no index into the text.
         while alternative < k && !starts_row(rest) {
             rest = past_bar(rest);
             alternative += 1;
