@@ -33,9 +33,9 @@ impl<S: Station> Tables<S> {
     pub(super) fn after_pivot(&self, start: u16) -> usize
         ensures { own start (drop result self.now.log.items) ≡ from_pivot (own start self.now.log.items) }
     {
-        match self.log.iter().rposition(|r| r.start == start && r.pivot) {
-            Some(k) => k + 1,
-            None => 0,
-        }
+        self.log
+            .iter()
+            .rposition(|r| r.start == start && r.pivot)
+            .map_or(0, |k| k + 1)
     }
 }
