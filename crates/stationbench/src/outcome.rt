@@ -14,7 +14,7 @@ pub enum Outcome {
     Kinds(Option<Kinds>),
 }
 
-// Of which kinds an activity is.
+// Of which kinds an activity is, to be printed. The tables of Lanes and Register have flags of their own: nothing works on both.
 #[derive(Clone, Copy, Debug, PartialEq, Eq)]
 pub struct Kinds {
     pub compensatable: bool,
