@@ -54,8 +54,8 @@ fn show_text(rt: &(impl Print + AllocGlobal), number: u64, bytes: &[u8]) -> anyh
 }
 
 // The column of `text`, which is how the bytes are written, at which the byte of a place begins.
-fn column_of(heap: Global, text: &str, bytes: &[u8], place: usize) -> Result<usize, AllocError> {
-    let column = encode(heap, &bytes[..place.min(bytes.len())])?.len();
+fn column_of(alloc: Global, text: &str, bytes: &[u8], place: usize) -> Result<usize, AllocError> {
+    let column = encode(alloc, &bytes[..place.min(bytes.len())])?.len();
     match text.as_bytes().get(column) {
         Some(b' ') => Ok(column.saturating_add(1)),
         _ => Ok(column),

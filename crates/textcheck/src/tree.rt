@@ -22,10 +22,10 @@ struct Walk {
 }
 
 impl Walk {
-    fn new(heap: Global) -> Walk {
+    fn new(alloc: Global) -> Walk {
         Walk {
             ordinal: 0,
-            alternatives: Vec::new(heap),
+            alternatives: Vec::new(alloc),
         }
     }
 
