@@ -62,6 +62,7 @@ trait Field: TryFrom<u32, Error = TryFromIntError> + Drop {
     ghost keeps: { (n : ℕ) (r : Result Self TryFromIntError) → Self.TryFrom.try_from_gives n r → option_map number (result_ok r) ≡ within LIMIT n };
 }
 
+// Three impls, since a trait of the library says of no type what its largest number is.
 impl Field for u8 {
     ghost number = { λ n. n };
 

@@ -20,7 +20,7 @@ const ACTIVITIES: [LaneActivity; 5] = [
 ];
 
 // The pairs 0-1, 0-2, 0-3, 1-2 and 2-3 conflict.
-// A table of constants, the form in which the rules want a catalogue in the code.
+// A table of constants, the form in which the rules of the project want a catalogue in the code.
 const CATALOGUE: Catalogue = Catalogue {
     kinds: KINDS,
     conflicts: [

@@ -20,7 +20,7 @@ const ACTIVITIES: [BagActivity; 5] = [
 ];
 
 // The pairs 0-1, 0-2, 0-3 and 1-2 conflict.
-// A table of constants, the form in which the rules want a catalogue in the code.
+// A table of constants, the form in which the rules of the project want a catalogue in the code.
 const CATALOGUE: Catalogue = Catalogue {
     kinds: KINDS,
     conflicts: [
@@ -169,6 +169,7 @@ impl Register {
         self.bag(bag).reported
     }
 
+    // Not `cell`: every `u8` is a bag, so there is no None to answer.
     #[tactic(auto, using(std::proofs::lemmas::List::get_or_read), unfolding(crate::specs::Register::bag_of))]
     fn bag(&self, bag: u8) -> Bag
         ensures { result ≡ bag_of self.now bag }

@@ -31,6 +31,7 @@ impl<S: Station> Tables<S> {
     pub(super) fn mark(&mut self, c: Claim)
         ensures { model S.Station.view self.new ≡ with_processes (model S.Station.view self.old) (map (rules.marked (λ q. blocker S.Station.meaning.conflict self.old.log.items c q && marks_it c q)) (model S.Station.view self.old).processes) }
     {
+        // Built in place, as above: a method would lend all of the tables, and the processes are changed beside it.
         let log = Log {
             station: &self.station,
             records: self.log.as_slice(),

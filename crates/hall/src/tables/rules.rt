@@ -13,7 +13,7 @@ use super::Tables;
 use crate::claim::{Claim, Deed};
 use crate::process::Process;
 use activity::Activity;
-use program::{Cursor, Kind};
+use program::{Cursor, Kind, Step};
 use protocol::{Aim, Direction, Record, Standing, Turn};
 use station::Station;
 
@@ -40,22 +40,22 @@ fn after_step(kind: Kind, s: Standing) -> Standing
 // `only` and `room` are clauses, and no fields of the tables: they speak of one process and what it has next, not of every table.
 impl<S: Station> Tables<S> {
     // The step is performed and recorded, or fails.
-    fn perform(&mut self, p: Process, kind: Kind, activity: Activity) -> Turn
+    fn perform(&mut self, p: Process, step: Step) -> Turn
         requires only { IsOnly p self.old.processes.items }
         requires room { vec_len self.old.log < 1024 }
-        ensures { answered (model S.Station.view self.new) (Ok (Stepped result)) ≡ performed (model S.Station.view self.old) (seen self.old.programs p) (is_pivot kind) activity (led_on (here self.old.programs p)) (S.Station.meaning.performed (S.Station.view self.old.station) activity) }
+        ensures { answered (model S.Station.view self.new) (Ok (Stepped result)) ≡ performed (model S.Station.view self.old) (seen self.old.programs p) (is_pivot step.kind) step.activity (led_on (here self.old.programs p)) (S.Station.meaning.performed (S.Station.view self.old.station) step.activity) }
     {
         let to = self.onward(p);
-        match self.station.perform(activity) {
+        match self.station.perform(step.activity) {
             Some(answer) => {
                 self.log.push_reserved(Record {
                     start: p.start,
-                    activity,
+                    activity: step.activity,
                     answer,
                     commit: 0,
-                    pivot: kind == Kind::Pivot,
+                    pivot: step.kind == Kind::Pivot,
                 });
-                self.relocate(p, after_step(kind, p.standing), to);
+                self.relocate(p, after_step(step.kind, p.standing), to);
                 Turn::Done(answer)
             }
             None => {
@@ -78,19 +78,19 @@ impl<S: Station> Tables<S> {
     }
 
     // A step that is no pivot is next.
-    pub(super) fn go(&mut self, p: Process, kind: Kind, activity: Activity) -> Turn
-        requires no_pivot { is_pivot kind ≡ false }
+    pub(super) fn go(&mut self, p: Process, step: Step) -> Turn
+        requires no_pivot { is_pivot step.kind ≡ false }
         requires only { IsOnly p self.old.processes.items }
         requires room { vec_len self.old.log < 1024 }
-        ensures { answered (model S.Station.view self.new) (Ok (Stepped result)) ≡ forward S.Station.meaning (model S.Station.view self.old) (seen self.old.programs p) (plain activity (led_on (here self.old.programs p))) }
+        ensures { answered (model S.Station.view self.new) (Ok (Stepped result)) ≡ forward S.Station.meaning (model S.Station.view self.old) (seen self.old.programs p) (plain step.activity (led_on (here self.old.programs p))) }
     {
         let deed = Deed::Plain {
-            activity: activity.number,
+            activity: step.activity.number,
         };
         if let Some(turn) = self.wait_for(p, deed) {
             return turn;
         }
-        self.perform(p, kind, activity)
+        self.perform(p, step)
     }
 
     // A pivot that no other process past its pivot holds up. It waits for those with records in conflict with it, or with the records of its process after its last pivot.
@@ -106,7 +106,8 @@ impl<S: Station> Tables<S> {
         if let Some(turn) = self.wait_for(p, deed) {
             return turn;
         }
-        self.perform(p, Kind::Pivot, activity)
+        let kind = Kind::Pivot;
+        self.perform(p, Step { kind, activity })
     }
 
     // A pivot is next: of a running process, it waits first for another past its pivot, which nobody is marked for.

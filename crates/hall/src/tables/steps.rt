@@ -19,7 +19,7 @@ impl<S: Station> Tables<S> {
         ensures { answered (model S.Station.view self.new) (step_reply result) ≡ outcome S.Station.meaning (model S.Station.view self.old) (stepping start) }
     {
         let p = self.process(start).ok_or(Refusal::NoProcess)?;
-        // one match on the standing together with what is next: the rules ask for it
+        // one match on the standing together with what is next: the rules of the project ask for it
         Ok(match (p.standing, self.next_step(p)) {
             (Standing::Withdrawing(_) | Standing::PastPivot(Direction::Back), _) => self.back(p),
             (_, None) => self.commit(p),
@@ -32,7 +32,7 @@ impl<S: Station> Tables<S> {
                     },
                 ),
             ) => self.pivot(p, activity),
-            (_, Some(Step { kind, activity })) => self.go(p, kind, activity),
+            (_, Some(step)) => self.go(p, step),
         })
     }
 

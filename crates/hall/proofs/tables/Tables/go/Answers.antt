@@ -10,5 +10,5 @@ returns-in-Some g c = c.in-Some.ensures.waits _
 pub returns : goal.returns
 returns g c =
     let h = c.args.self.now in
-    let on = λ (b : Bool). performed (model g.S.Station.view h) (seen h.programs c.args.p) b c.args.activity (onward (here h.programs c.args.p)) (g.S.Station.meaning.performed (g.S.Station.view h.station) c.args.activity) in
+    let on = λ (b : Bool). performed (model g.S.Station.view h) (seen h.programs c.args.p) b c.args.step.activity (onward (here h.programs c.args.p)) (g.S.Station.meaning.performed (g.S.Station.view h.station) c.args.step.activity) in
     (rw (c.in_default.ensures.same refl) at c.perform.ensures) ∙ ap on c.requires.no_pivot ∙ c.in_default.ensures.free refl _
