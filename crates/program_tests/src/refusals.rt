@@ -111,6 +111,51 @@ fn limits_come_before_operands(rt: HostRuntime) -> Result<(), Fail> {
 }
 
 #[test]
+fn too_long_comes_before_what_ends_or_opens(rt: HostRuntime) -> Result<(), Fail> {
+    expect_parts(&rt, &[("P 00 0000 [", 1), ("|", 251)], refused(1, 255))?;
+    expect_parts(
+        &rt,
+        &[("P 00 0000 [", 1), ("|", 250), ("C", 1)],
+        refused(1, 255),
+    )?;
+    expect_parts(&rt, &[("P000000[", 5), ("|", 231)], refused(1, 255))
+}
+
+#[test]
+fn of_two_limits_the_first_in_the_text(rt: HostRuntime) -> Result<(), Fail> {
+    expect_parts(
+        &rt,
+        &[("P000000[", 4), ("C000000", 28), ("P000000[", 1)],
+        refused(4, 132),
+    )?;
+    expect_parts(&rt, &[("P000000[", 5), ("C000000", 28)], refused(5, 24))
+}
+
+#[test]
+fn limits_and_what_follows_the_full_stop(rt: HostRuntime) -> Result<(), Fail> {
+    expect_parts(&rt, &[("C 00 0003", 33), (". .", 1)], refused(4, 128))?;
+    expect_parts(
+        &rt,
+        &[("C 00 0003", 32), (". C 00 0003", 1)],
+        refused(6, 129),
+    )?;
+    expect(
+        &rt,
+        "P000000[ P000000[ P000000[ P000000[ P000000[ ] | ] | ] | ] | ] . .",
+        refused(5, 24),
+    )
+}
+
+#[test]
+fn the_last_place_of_a_byte_that_is_no_command(rt: HostRuntime) -> Result<(), Fail> {
+    expect_parts(
+        &rt,
+        &[("P 00 0000 [", 1), ("|", 249), ("00", 1)],
+        refused(2, 254),
+    )
+}
+
+#[test]
 fn trailing_whatever_follows(rt: HostRuntime) -> Result<(), Fail> {
     expect(&rt, ". 00", refused(6, 1))?;
     expect(&rt, "C 00 0003 . C", refused(6, 5))?;
