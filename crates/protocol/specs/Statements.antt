@@ -9,11 +9,11 @@ use Rattle.protocol.specs.declared.scan.Request.{Request}
 use Rattle.station.specs.Meaning.{Meaning}
 use Rattle.protocol.specs.Means.{Does}
 use Rattle.protocol.specs.Log.{own, to_pivot, orderly, prior, pivoted}
-use Rattle.protocol.specs.Hall.{Hall, fresh}
+use Rattle.protocol.specs.Hall.{Hall}
 use Rattle.protocol.specs.Call.{Call, Event, call, scan}
 use Rattle.protocol.specs.Comes.{Comes, Scans}
 use Rattle.program.specs.Places.{nth}
-use Rattle.protocol.specs.Questions.{kept_step}
+use Rattle.protocol.specs.Questions.{made_over, kept_step, station_back}
 use Rattle.protocol.specs.Book.{empty, Told, called, scan_served, scan_refused, book_of}
 
 -- what is told of a scan list: the records with their answers, or that it was refused
@@ -52,13 +52,13 @@ pub record Agree {S : Type 0} (M : Meaning S) (s : S) (ts : List Told) (h : Hall
   pub same : h.log ≡ kept_steps ts
   pub ordered : Orderly (kept_steps ts) (orderly (kept_steps ts))
   pub only : (run : List Record) → Orderly (kept_steps ts) run → run ≡ orderly (kept_steps ts)
-  pub runs : Replays (Does M) (orderly (kept_steps ts)) s h.station
+  pub runs : Replays (Does M) (orderly (kept_steps ts)) s (station_back h)
   -- and the question for a kept step is answered by the orderly run
   pub asked : (i : ℕ) → kept_step h i ≡ nth (orderly (kept_steps ts)) i
 
 -- the two runs agree after every run from the making of a hall on
 abbrev pub Agrees : {S : Type 0} → Meaning S → Type 0
-Agrees {S} M = (s : S) (es : List Event) (ts : List Told) (h : Hall S) → Runs M (fresh s) es ts h → Agree M s ts h
+Agrees {S} M = (s : S) (es : List Event) (ts : List Told) (h : Hall S) → Runs M (made_over s) es ts h → Agree M s ts h
 
 -- a kept step without its commit number
 abbrev pub without_commit_number : Record → Record
@@ -74,6 +74,6 @@ Fixed ts us n = Begins (map without_commit_number (to_pivot (own n (orderly (kep
 -- what a process has kept up to its last pivot stays, whatever comes
 abbrev pub Stays : {S : Type 0} → Meaning S → Type 0
 Stays {S} M =
-    (s : S) (es : List Event) (ts : List Told) (h : Hall S) → Runs M (fresh s) es ts h
+    (s : S) (es : List Event) (ts : List Told) (h : Hall S) → Runs M (made_over s) es ts h
     → (more : List Event) (us : List Told) (g : Hall S) → Runs M h more us g
     → (n : ℕ) → Fixed ts (ts ++ us) n
