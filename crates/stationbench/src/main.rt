@@ -70,9 +70,15 @@ fn answer(rt: &impl Print, rig: &mut Rig, number: u64, text: &[u8]) -> io::Resul
 
 fn run(rt: &(impl Print + AllocGlobal), input: impl Read + Drop) -> io::Result<()> {
     let mut rig = rig();
-    let lines = BufReader::new(rt.alloc(), input)?.split(rt.alloc(), b'\n');
-    for (number, text) in (1u64..).zip(lines) {
-        answer(rt, &mut rig, number, text?.as_slice())?;
+    let mut input = BufReader::new(rt.alloc(), input)?;
+    // one buffer for all lines: `split` would make one for each, which takes more time, and more memory where lines grow
+    let mut text = Vec::new(rt.alloc());
+    for number in 1..u64::MAX {
+        text.clear();
+        if input.read_until(b'\n', &mut text)? == 0 {
+            break;
+        }
+        answer(rt, &mut rig, number, text.as_slice())?;
     }
     Ok(())
 }

@@ -29,7 +29,8 @@ fn show_unreadable(
     };
     println!(rt; "line {number}, column {shown}: {why}")?;
     let text = String::from_utf8_lossy(rt.alloc(), line)?;
-    show_place(rt, text.as_str(), column)?;
+    show_line(rt, text.as_str())?;
+    show_caret(rt, column)?;
     Ok(())
 }
 
@@ -46,8 +47,9 @@ fn show_text(rt: &(impl Print + AllocGlobal), number: u64, bytes: &[u8]) -> anyh
             let fault = fault.number();
             let why = meaning(refusal, bytes);
             println!(rt; "line {number}: refused {fault} at {place}: {why}")?;
-            let column = column_of(rt.alloc(), text.as_str(), bytes, place)?;
-            show_place(rt, text.as_str(), column)?;
+            // shown before its column is sought, which takes memory
+            show_line(rt, text.as_str())?;
+            show_caret(rt, column_of(rt.alloc(), text.as_str(), bytes, place)?)?;
         }
     }
     Ok(())
@@ -62,9 +64,13 @@ fn column_of(alloc: Global, text: &str, bytes: &[u8], place: usize) -> Result<us
     }
 }
 
-// A text, and a caret under a column of it.
-fn show_place(rt: &impl Print, text: &str, column: usize) -> io::Result<()> {
-    println!(rt; "    {text}")?;
+// A text to which a caret is to point.
+fn show_line(rt: &impl Print, text: &str) -> io::Result<()> {
+    println!(rt; "    {text}")
+}
+
+// A caret under a column of it.
+fn show_caret(rt: &impl Print, column: usize) -> io::Result<()> {
     println!(rt; "    {:column$}^", "")
 }
 

@@ -19,10 +19,16 @@ fn run(rt: &(impl Env + Print + AllocGlobal), input: impl Read + Drop) -> anyhow
         help::show(rt)?;
         return Ok(());
     }
-    let lines = BufReader::new(rt.alloc(), input)?.split(rt.alloc(), b'\n');
-    for (number, line) in (1u64..).zip(lines) {
-        let line = line?;
-        let line = line.as_slice();
+    let mut input = BufReader::new(rt.alloc(), input)?;
+    // one buffer for all lines: `split` would make one for each, which takes more time, and more memory where lines grow
+    let mut buffer = Vec::new(rt.alloc());
+    for number in 1..u64::MAX {
+        buffer.clear();
+        if input.read_until(b'\n', &mut buffer)? == 0 {
+            break;
+        }
+        let line = buffer.as_slice();
+        let line = line.strip_suffix(b"\n").unwrap_or(line);
         lines::show(rt, number, line.strip_suffix(b"\r").unwrap_or(line))?;
     }
     Ok(())

@@ -1,10 +1,13 @@
 // A program as an indented tree.
+use arrayvec::ArrayVec;
 use program::{Command, Program, Step};
-use std::alloc::Global;
 use std::io;
 
-pub fn show(rt: &(impl Print + AllocGlobal), program: &Program) -> io::Result<()> {
-    let mut walk = Walk::new(rt.alloc());
+// How many brackets a program has open at once, at most.
+const DEPTH: usize = 4;
+
+pub fn show(rt: &impl Print, program: &Program) -> io::Result<()> {
+    let mut walk = Walk::new();
     for &command in program.commands() {
         walk.show_command(rt, command)?;
     }
@@ -15,17 +18,18 @@ pub fn show(rt: &(impl Print + AllocGlobal), program: &Program) -> io::Result<()
 }
 
 // The ordinal of the next step, and the alternative that each open bracket is in, the innermost last.
+// It takes no memory, so that a tree once begun is shown to its end.
 #[derive(Drop)]
 struct Walk {
     ordinal: usize,
-    alternatives: Vec<usize>,
+    alternatives: ArrayVec<usize, DEPTH>,
 }
 
 impl Walk {
-    fn new(alloc: Global) -> Walk {
+    fn new() -> Walk {
         Walk {
             ordinal: 0,
-            alternatives: Vec::new(alloc),
+            alternatives: ArrayVec::new(),
         }
     }
 
@@ -63,7 +67,8 @@ impl Walk {
     fn show_alternative(&mut self, rt: &impl Print, alternative: usize) -> io::Result<()> {
         let indent = self.indent();
         println!(rt; "{:indent$}  alternative {alternative}:", "")?;
-        self.alternatives.push(alternative)?;
+        // no program opens a bracket more
+        let _full = self.alternatives.try_push(alternative);
         Ok(())
     }
 }
