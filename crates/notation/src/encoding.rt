@@ -1,8 +1,8 @@
 // From bytes to the notation.
-ghost use Rattle.std.specs.Prelude.{◌≡◌, ◌/◌, ◌%◌, [], ◌∷◌, ◌++◌, IfOk, Ok, string_bytes, OnOk};
+ghost use Rattle.std.specs.Prelude.{◌≡◌, ◌/◌, ◌%◌, ◌<◌, [], ◌∷◌, ◌++◌, IfOk, Ok, string_bytes, OnOk};
 ghost use Rattle.notation.specs.Notation.{bytes_of, due_after, gap, hex, unit, written};
 
-use crate::sign::is_command;
+use crate::sign::{hex, is_command};
 use std::alloc::{AllocError, Global};
 
 // How many operand bytes are to come after a byte, where `due` were to come before it: three follow a step's letter.
@@ -15,6 +15,14 @@ fn due_after(due: u8, byte: u8) -> u8
     }
 }
 
+// One character more.
+fn put(out: &mut String, c: u8) -> Result<(), AllocError>
+    requires { c < 128 }
+    ensures { OnOk result (string_bytes out.new ≡ string_bytes out.old ++ c ∷ []) }
+{
+    out.push(char::from(c))
+}
+
 // The blank before a byte: none at the beginning, and none between the two bytes of a parameter.
 fn put_gap(out: &mut String, due: u8) -> Result<(), AllocError>
     ensures { OnOk result (string_bytes out.new ≡ string_bytes out.old ++ gap (string_bytes out.old) due) }
@@ -22,16 +30,17 @@ fn put_gap(out: &mut String, due: u8) -> Result<(), AllocError>
     if due == 1 || out.is_empty() {
         Ok(())
     } else {
-        out.push(' ')
+        put(out, b' ')
     }
 }
 
-// The two digits of a byte.
-#[tactic(auto, using(std::proofs::lemmas::Fmt::hex_byte))]
+// The two digits of a byte, each pushed by itself: `write!` with a width takes more than twice as long.
 fn put_digits(out: &mut String, byte: u8) -> Result<(), AllocError>
     ensures { OnOk result (string_bytes out.new ≡ string_bytes out.old ++ hex (byte / 16) ∷ hex (byte % 16) ∷ []) }
 {
-    write!(out, "{byte:02x}")
+    put(out, hex(byte / 16))?;
+    put(out, hex(byte % 16))?;
+    Ok(())
 }
 
 // A byte: a command's letter or mark where a command may stand, and else two digits.
@@ -39,7 +48,7 @@ fn put_unit(out: &mut String, due: u8, byte: u8) -> Result<(), AllocError>
     ensures { OnOk result (string_bytes out.new ≡ string_bytes out.old ++ unit due byte) }
 {
     if due == 0 && is_command(byte) {
-        out.push(char::from(byte))
+        put(out, byte)
     } else {
         put_digits(out, byte)
     }

@@ -1,6 +1,6 @@
 // What a character of the notation is.
-ghost use Rattle.std.specs.Prelude.{◌≡◌};
-ghost use Rattle.notation.specs.Notation.{sign_of, LowSign, is_command};
+ghost use Rattle.std.specs.Prelude.{◌≡◌, ◌<◌};
+ghost use Rattle.notation.specs.Notation.{sign_of, LowSign, hex, is_command};
 
 // A blank, a command's letter or mark, or a hexadecimal digit.
 #[derive(Clone, Copy, Debug, PartialEq, Eq)]
@@ -29,4 +29,16 @@ pub fn is_command(c: u8) -> bool
     ensures { result ≡ is_command c }
 {
     matches!(c, b'C' | b'P' | b'R' | b'[' | b'|' | b']' | b'.')
+}
+
+// The character of a hexadecimal digit.
+pub(crate) fn hex(digit: u8) -> u8
+    requires { digit < 16 }
+    ensures { result ≡ hex digit }
+{
+    if digit < 10 {
+        b'0' + digit
+    } else {
+        b'a' + (digit - 10)
+    }
 }
