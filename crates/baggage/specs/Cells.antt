@@ -1,5 +1,5 @@
 -- A state of cells, and a station whose activities each work on the one cell that their parameter names.
-use Rattle.std.specs.Prelude.{◌≡◌, ℕ, ◌<◌, cond, ◌≢◌, Some, None, Option, nat_lt, slice_get}
+use Rattle.std.specs.Prelude.{◌≡◌, ℕ, ◌<◌, cond, ◌≢◌, length, Some, None, Option, nat_lt, slice_get}
 use Rattle.station.specs.Meaning.{Meaning, lifted}
 use Rattle.baggage.specs.Tabled.{listed, matched}
 use Rattle.baggage.specs.Cell.{CellMeaning}
@@ -34,10 +34,10 @@ module _ {W C K : Type 0} (m : CellMeaning C K) (put : W → ℕ → C → W) wh
   taken_back_at (Some k) (Some c) s p x = put s (m.place p) (m.taken_back k x c)
   taken_back_at (Some k) None s p x = s
 
--- the five activities and the catalogue, where `find` has the cell of a number, if there is one, and `put` replaces it
+-- the activities and the catalogue, where `find` has the cell of a number, if there is one, and `put` replaces it
 abbrev pub on_found : {W C K : Type 0} → CellMeaning C K → (W → ℕ → Option C) → (W → ℕ → C → W) → Meaning W
 on_found m find put = record {
-  activities = 5;
+  activities = length m.names;
   performed = λ s a. performed_at m put (slice_get m.names a.number) (find s (m.place a.parameter)) s a.parameter;
   taken_back = λ s a x. taken_back_at m put (slice_get m.names a.number) (find s (m.place a.parameter)) s a.parameter x;
   compensatable = listed m.listing.compensatables;

@@ -1,5 +1,5 @@
 -- A station whose activities each work on one cell keeps the laws that the cells keep.
-use Rattle.std.specs.Prelude.{◌≡◌, ℕ, ◌<◌, Bool, true, false, cond, length, is_some, Some, None, Option, MatchOption, nat_lt, slice_get, refl}
+use Rattle.std.specs.Prelude.{◌≡◌, ℕ, ◌<◌, ◌≤◌, Bool, true, false, cond, length, is_some, Some, None, Option, MatchOption, nat_lt, slice_get, refl}
 use Rattle.std.proofs.Common.{sym, ap, ◌∙◌, subst, ⊎_elim, arith}
 use Rattle.std.specs.List.{AllByRecursion}
 use Rattle.std.proofs.lemmas.Bool.{ltb-true, cases_eq}
@@ -95,10 +95,11 @@ module _ {W C K : Type 0} (m : CellMeaning C K) (cells : Cells W C) where
 
     pub bounded : length m.names ≡ 5 → Bounded (on_cells m cells)
     bounded five n above =
-        let past : slice_get m.names n ≡ None = slice_get_past m.names n (omega (arith, five)) in record {
+        let past : slice_get m.names n ≡ None = slice_get_past m.names n above in
+        let over-five : 5 ≤ n = omega (arith, five) in record {
           impossible = λ s a e. ap (λ o. performed_at m cells.put o (cell_at cells s (m.place a.parameter)) s a.parameter) (ap (slice_get m.names) e ∙ past);
           nothing = λ s a x e. ap (λ o. taken_back_at m cells.put o (cell_at cells s (m.place a.parameter)) s a.parameter x) (ap (slice_get m.names) e ∙ past);
-          not_compensatable = tables.not_compensatable m.listing passes n above;
-          not_retriable = tables.not_retriable m.listing passes n above;
-          without_conflict = λ k. tables.without_conflict m.listing passes n k above;
+          not_compensatable = tables.not_compensatable m.listing passes n over-five;
+          not_retriable = tables.not_retriable m.listing passes n over-five;
+          without_conflict = λ k. tables.without_conflict m.listing passes n k over-five;
         }

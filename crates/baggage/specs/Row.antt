@@ -15,6 +15,6 @@ first_row m N = record { cells = replicate N m.first; full = length-replicate N 
 unfoldable pub with_cell : {C : Type 0} {N : ℕ} → Row C N → ℕ → C → Row C N
 with_cell s i c = record { cells = slice_set s.cells i c; full = length-set s.cells i c ∙ s.full }
 
--- the five activities and the catalogue of a row of N cells
+-- the activities and the catalogue of a row of N cells
 abbrev pub in_row : {C K : Type 0} → CellMeaning C K → (N : ℕ) → Meaning (Row C N)
 in_row m N = on_found m (λ s i. slice_get s.cells i) with_cell

@@ -42,6 +42,7 @@ pub struct Catalogue {
 impl Catalogue {
     // The kind of an activity, and neither kind past the table's end. A listing has the same where the table agrees with it.
     pub fn kind(&self, number: u8) -> Kind
+        ensures table { result ≡ kind_at self.now number }
         ensures compensatable { (l : Listing) → agrees self.now l ≡ true → result.compensatable ≡ listed l.compensatables number }
         ensures retriable { (l : Listing) → agrees self.now l ≡ true → result.retriable ≡ listed l.retriables number }
     {
@@ -53,7 +54,8 @@ impl Catalogue {
 
     // Whether two activities conflict, which none does past the table's end. A listing has the same where the table agrees with it.
     pub fn conflict(&self, a: u8, b: u8) -> bool
-        ensures { (l : Listing) → agrees self.now l ≡ true → result ≡ matched l.conflicts a b }
+        ensures table { result ≡ conflict_at self.now a b }
+        ensures listed { (l : Listing) → agrees self.now l ≡ true → result ≡ matched l.conflicts a b }
     {
         self.conflicts
             .get(usize::from(a))

@@ -1,5 +1,5 @@
 // A station that is a row of cells: each activity works on the one cell that its parameter names.
-ghost use Rattle.std.specs.Prelude.{◌≡◌, refl, length, slice_get};
+ghost use Rattle.std.specs.Prelude.{◌≡◌, length, slice_get};
 
 use crate::cell::Cell;
 use activity::Activity;
@@ -47,7 +47,7 @@ impl<C: Cell, const N: usize> Station for Row<C, N> {
 
     ghost meaning = { in_row C.Cell.meaning N };
 
-    ghost counted = { refl };
+    ghost counted = { C.Cell.laws.five };
 
     ghost restores = { RowLaws.restores C.Cell.meaning N C.Cell.laws.undone };
 

@@ -7,4 +7,7 @@ use Rattle.baggage.proofs.catalogue.Catalogue.conflict.Goals as goal
 pub returns : goal.returns
 returns c =
     let entry : c.unwrap_or.result ≡ conflict_at c.args.self.now c.args.a c.args.b = grind (arith, common_steps) in
-    λ l passes. entry ∙ (agreed c.args.self.now l passes).conflict c.args.a c.args.b
+    record {
+      table = entry;
+      listed = λ l passes. entry ∙ (agreed c.args.self.now l passes).conflict c.args.a c.args.b;
+    }
