@@ -1,14 +1,14 @@
 -- A reader between two commands: one command more, and a refusal at its place.
-use Rattle.std.proofs.Common.{◌≡◌, ℕ, ◌+◌, ◌-◌, ◌*◌, ◌<◌, ◌≤◌, List, [], ◌∷◌, ◌++◌, length, take, drop, set, sym, refl, ap, ◌∙◌, subst, arith, length-drop, take-append-drop, length-take-le, take-add}
+use Rattle.std.proofs.Common.{◌≡◌, ℕ, ◌+◌, ◌-◌, ◌*◌, ◌<◌, ◌≤◌, List, [], ◌∷◌, ◌++◌, length, take, drop, set, sym, refl, ap, ◌∙◌, subst, arith, length-append, length-drop, take-append-drop, length-take-le, take-add}
 use Rattle.std.proofs.lemmas.List.{take_all, take_more_set, drop_more, drop_all}
 use Rattle.program.specs.declared.command.Command.{Command}
 use Rattle.program.specs.declared.command.Command.TheVariants.{C, Open}
 use Rattle.program.specs.declared.refusal.Fault.{Fault}
-use Rattle.program.specs.declared.refusal.Fault.TheVariants.{Misplaced, CutOff, TooManySteps, TooDeep, Trailing}
+use Rattle.program.specs.declared.refusal.Fault.TheVariants.{TooLong, Misplaced, CutOff, TooManySteps, TooDeep, Trailing}
 use Rattle.program.specs.declared.reader.Reader.{Reader}
 use Rattle.program.specs.Grammar.{mark, written, bytes, Yields, Yielded}
 use Rattle.program.specs.Places.{body_at}
-use Rattle.program.specs.Refusals.{weight, step_count, Within, Whole, opened, Stands, Reason, Stuck, Refused}
+use Rattle.program.specs.Refusals.{weight, step_count, Within, Whole, opened, Stands, Reason, Stuck, Refused, number_of}
 use Rattle.program.specs.Contexts.{Context, in_body_at, nowhere, over, go}
 use Rattle.program.specs.Reads.{text_of, commands_of, context, byte_at, Spelled, StepNext}
 use Rattle.program.proofs.Trees.{goes_whole, goes_more, goes_begins, begins_goes, whole_goes}
@@ -114,3 +114,23 @@ module _ (t : List ℕ) (r : Reader) (same : text_of r ≡ t) (end : context r �
   followed h =
       let here = subst (λ l. r.at < length l) (sym same) h in
       subst (λ l. Refused l Trailing r.at) same (trailing r somewhere_else here end (goes_whole (commands_of r) end))
+
+-- a refusal stands within the 255 bytes, and its number is at most 6
+stuck_place : (t : List ℕ) (f : Fault) (place : ℕ) (cs : List Command) (rest : List ℕ) → Stuck t f place cs rest → place ≤ 255
+stuck_place t f place cs rest s = omega (arith, s.short, s.placed, ap length s.split ∙ length-append (bytes cs) rest)
+
+pub refused_place : (t : List ℕ) (f : Fault) (place : ℕ) → Refused t f place → place ≤ 255
+refused_place t TooLong place h = omega arith
+refused_place t Misplaced place (cs, rest, s) = stuck_place t Misplaced place cs rest s
+refused_place t CutOff place (cs, rest, s) = stuck_place t CutOff place cs rest s
+refused_place t TooManySteps place (cs, rest, s) = stuck_place t TooManySteps place cs rest s
+refused_place t TooDeep place (cs, rest, s) = stuck_place t TooDeep place cs rest s
+refused_place t Trailing place (cs, rest, s) = stuck_place t Trailing place cs rest s
+
+pub number_bound : (f : Fault) → number_of f ≤ 6
+number_bound TooLong = omega arith
+number_bound Misplaced = omega arith
+number_bound CutOff = omega arith
+number_bound TooManySteps = omega arith
+number_bound TooDeep = omega arith
+number_bound Trailing = omega arith
