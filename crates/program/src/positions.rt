@@ -135,7 +135,7 @@ impl Program {
             rest = past_bar(rest);
             alternative += 1;
         }
-        (commands.len() - rest.len(), alternative)
+        (from.max(commands.len() - rest.len()), alternative)
     }
 
     // The beginning of alternative `k` of the last pivot; past the last alternative, of that. Before any pivot, the same.
