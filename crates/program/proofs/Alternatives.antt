@@ -1,5 +1,5 @@
 -- From one alternative of some choices to the next.
-use Rattle.std.proofs.Common.{◌≡◌, ℕ, zero, suc, ◌-◌, ◌<◌, ◌≤◌, ◌⊎◌, Bool, true, false, List, [], ◌∷◌, length, drop, sym, refl, ap, ◌∙◌, arith, length-drop}
+use Rattle.std.proofs.Common.{◌≡◌, ℕ, zero, suc, ◌-◌, ◌<◌, ◌≤◌, ◌⊎◌, Bool, true, false, List, [], ◌∷◌, max, length, drop, sym, refl, ap, ◌∙◌, arith, length-drop}
 use Rattle.std.proofs.Common.{inl, inr}
 use Rattle.std.proofs.lemmas.Grind.{common_steps}
 use Rattle.program.specs.declared.command.Command.{Command}
@@ -24,6 +24,10 @@ skip_there n (_ ∷ xs) = let r = skip_there n xs in (suc r.0, r.1, λ h. omega 
 -- the place of what is left of some commands, by its length
 pub by_length : (cs xs : List Command) (i : ℕ) → drop i cs ≡ xs → (length xs ≤ length cs) × (drop (length cs - length xs) cs ≡ xs)
 by_length cs xs i e = grind (arith, common_steps)
+
+-- the same by its place, which is never before where one began: where the commands end before that, nothing is left, there as well
+pub by_place : (cs xs : List Command) (i from at : ℕ) → drop i cs ≡ xs → length xs ≤ length cs - from → at ≡ max from (length cs - length xs) → drop at cs ≡ xs
+by_place cs xs i from at e within is = grind (arith, common_steps, by_length cs xs i e)
 
 some_left : (xs : List Command) → starts_row xs ≡ false → 0 < length xs
 some_left [] e = cc

@@ -141,6 +141,16 @@ pub some_first : (cs : List Command) (x : Command) → Some x ≡ first cs → c
 some_first [] x e = cc
 some_first (c ∷ cs) x e = let h : c ≡ x = cc in ap (λ y. y ∷ cs) h
 
+-- the first of some commands, as a step
+pub step_here : (x : Command) (xs : List Command) (s : Step) (k : ℕ) → Some s ≡ step_of x → k ≡ 0 → Some s ≡ nth (steps_among (x ∷ xs)) k
+step_here x xs s k e z = ap (λ o. nth (cons_option o (steps_among xs)) 0) e ∙ ap (nth (steps_among (x ∷ xs))) (sym z)
+
+pub step_passed : (x : Command) (xs : List Command) (s : Step) (k : ℕ) → Some s ≡ step_of x → nth (steps_among xs) k ≡ nth (steps_among (x ∷ xs)) (suc k)
+step_passed x xs s k e = ap (λ o. nth (cons_option o (steps_among xs)) (suc k)) e
+
+pub no_step : (x : Command) (xs : List Command) (k : ℕ) → None ≡ step_of x → nth (steps_among xs) k ≡ nth (steps_among (x ∷ xs)) k
+no_step x xs k e = ap (λ o. nth (cons_option o (steps_among xs)) k) e
+
 -- ---- how many steps stand before a place
 nth_there : (us vs : List Step) (s : Step) → nth (us ++ s ∷ vs) (length us) ≡ Some s
 nth_there [] vs s = refl

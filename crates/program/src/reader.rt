@@ -135,12 +135,20 @@ impl Reader<'_> {
         requires { StepsNext kind self.old depth }
         ensures { Reads self.old self.new (RowRead self.new (letter_of kind) (StepsNext kind self.new depth)) result }
     {
-        loop {
-            match (kind, self.peek()) {
-                (Kind::Compensatable, Some('C')) | (Kind::Retriable, Some('R')) => self.step(kind)?,
-                _ => return Ok(()),
+        match kind {
+            Kind::Compensatable => {
+                while let Some('C') = self.peek() {
+                    self.step(kind)?;
+                }
             }
+            Kind::Retriable => {
+                while let Some('R') = self.peek() {
+                    self.step(kind)?;
+                }
+            }
+            Kind::Pivot => {}
         }
+        Ok(())
     }
 
     // A body under `depth` open brackets, up to the mark that ends it.

@@ -57,6 +57,20 @@ fn the_last_alternative_is_the_last(rt: HostRuntime) -> Result<(), Fail> {
 }
 
 #[test]
+fn choices_of_another_program_keep_their_place(rt: HostRuntime) -> Result<(), Fail> {
+    let p = program(&rt, "C 00 0003 P 04 0003 [ R 01 0003 ] .")?;
+    let shorter = program(&rt, ".")?;
+    let row = p.onward(p.onward(Cursor::start()));
+    let same = shorter.into_alternative(row, 0);
+    assert_eq!(rt; p.next(same), step(Kind::Retriable, 1, 3));
+    assert_eq!(rt; p.ordinal(same), 2);
+    let next = shorter.next_alternative(row);
+    assert_eq!(rt; p.next(next), step(Kind::Retriable, 1, 3));
+    assert_eq!(rt; p.ordinal(next), 2);
+    Ok(())
+}
+
+#[test]
 fn steps_by_ordinal(rt: HostRuntime) -> Result<(), Fail> {
     let p = program(&rt, "C 00 0003 P 03 0003 [ R 04 0003 ] .")?;
     assert_eq!(rt; p.step(0), step(Kind::Compensatable, 0, 3));

@@ -1,8 +1,8 @@
-use Rattle.std.proofs.Common.{◌≡◌, ◌⊎◌, ◌+◌, ◌-◌, suc, true, drop, length, sym, ap, subst, ◌∙◌, arith, inl, inr}
+use Rattle.std.proofs.Common.{◌≡◌, ◌⊎◌, ◌+◌, ◌-◌, suc, true, drop, sym, ap, subst, ◌∙◌, arith, inl, inr}
 use Rattle.std.proofs.lemmas.List.{drop-drop}
 use Rattle.program.specs.Places.{program_commands, rest_at, skipped, starts_row, choices_at}
 use Rattle.program.specs.Positions.{reached}
-use Rattle.program.proofs.Alternatives.{by_length, skip_there, stays_there, Passes, passes, rest_skipped}
+use Rattle.program.proofs.Alternatives.{by_length, by_place, skip_there, stays_there, Passes, passes, rest_skipped}
 use Rattle.program.proofs.program.Program.alternative_at.Goals as goal
 use Rattle.program.proofs.program.Program.alternative_at.Goals.{then-loop-alternative-test+else-not-starts_row, else-loop-alternative-test}
 
@@ -18,11 +18,12 @@ loop-alternative-preserved c =
       there = (here.0 + on.0, sym (drop-drop on.0 here.0 c.commands-commands.result.now) ∙ ap (drop on.0) here.1 ∙ on.1 ∙ sym c.past_bar-rest.ensures);
       text = past.text ∙ ap (λ n. skipped n xs) one ∙ c.loop-alternative.invariant.text;
       count = omega (arith, past.count, ap (reached (choices_at xs)) one);
+      within = omega (arith, past.shorter, c.loop-alternative.invariant.within);
       passed = omega (arith, past.shorter);
     }
 
-pub overflow_sub-result : goal.overflow_sub-result
-overflow_sub-result c = (by_length c.commands-commands.result.now c.loop-alternative.rest.now c.loop-alternative.invariant.there.0 c.loop-alternative.invariant.there.1).0
+pub overflow_sub-commands : goal.overflow_sub-commands
+overflow_sub-commands c = (by_length c.commands-commands.result.now c.loop-alternative.rest.now c.loop-alternative.invariant.there.0 c.loop-alternative.invariant.there.1).0
 
 pub returns : goal.returns
 returns c =
@@ -33,9 +34,9 @@ returns c =
       | else-loop-alternative-test w ↦ inr (omega arith)
     ] in
     let stays = stays_there xs left stop in
-    let at = length c.commands-commands.result.now - length xs in
+    let at = c.max.result in
     let text : drop at (program_commands c.args.self.now) ≡ skipped c.args.k (drop c.args.from (program_commands c.args.self.now)) =
-    ap (drop at) (sym c.commands-commands.ensures.table) ∙ (by_length c.commands-commands.result.now xs c.loop-alternative.invariant.there.0 c.loop-alternative.invariant.there.1).1 ∙ sym stays.0 ∙ c.loop-alternative.invariant.text in
+    ap (drop at) (sym c.commands-commands.ensures.table) ∙ by_place c.commands-commands.result.now xs c.loop-alternative.invariant.there.0 c.args.from at c.loop-alternative.invariant.there.1 c.loop-alternative.invariant.within c.max.ensures ∙ sym stays.0 ∙ c.loop-alternative.invariant.text in
     record {
       there = ap rest_at text ∙ rest_skipped c.args.k (drop c.args.from (program_commands c.args.self.now));
       count = omega (arith, stays.1);

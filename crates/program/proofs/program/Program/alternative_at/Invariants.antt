@@ -3,7 +3,7 @@ use Rattle.program.specs.Positions.{reached}
 use Rattle.program.specs.Places.{program_commands, choices_at, skipped}
 use Rattle.program.proofs.program.Program.alternative_at.Given as goal
 
--- what is still to be passed; each alternative passed took a command, and the pivot stands before them
+-- what is still to be passed, no more than stood from the choices on; each alternative passed took a command, and the pivot stands before them
 abbrev pub invariant-loop-alternative : goal.invariant-loop-alternative
 invariant-loop-alternative l =
     let first = drop l.from (program_commands l.self) in
@@ -12,6 +12,7 @@ invariant-loop-alternative l =
       there : (i : ℕ) × (drop i l.commands ≡ l.rest);
       text : skipped left l.rest ≡ skipped l.k first;
       count : l.alternative + reached (choices_at l.rest) left ≡ reached (choices_at first) l.k;
+      within : length l.rest ≤ length l.commands - l.from;
       passed : l.alternative + length l.rest ≤ 254;
     }
 
